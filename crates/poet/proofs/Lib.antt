@@ -1,0 +1,11 @@
+pub mod Xors
+pub mod Rows
+pub mod Turn
+pub mod Opening
+pub mod Fronts
+pub mod Ties
+pub mod Computing
+pub mod Prefix
+pub mod Accepting
+pub mod Streams
+pub mod Example
