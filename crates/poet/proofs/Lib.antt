@@ -1,4 +1,5 @@
 pub mod Xors
+pub mod Completing
 pub mod Rows
 pub mod Turn
 pub mod Opening

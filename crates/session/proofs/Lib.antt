@@ -1,0 +1,5 @@
+pub mod Bytewise
+pub mod Runs
+pub mod Crossing
+pub mod Sealing
+pub mod Judging
