@@ -41,6 +41,13 @@ unfolding Bytes
 bytes-from [] h = tt
 bytes-from (x ∷ a) h = (h 0 (omega arith), bytes-from a (λ k l. h (suc k) (omega arith)))
 
+-- and the other way
+pub bytes-at : (a : List ℕ) → Bytes a → (k : ℕ) → k < length a → getD a k 0 < 256
+unfolding Bytes
+bytes-at [] b k l = absurd (omega arith)
+bytes-at (x ∷ a) b zero l = b .0
+bytes-at (x ∷ a) b (suc k) l = bytes-at a (b .1) k (omega arith)
+
 pub bytes-replicate : (n y : ℕ) → y < 256 → Bytes (replicate n y)
 unfolding Bytes
 bytes-replicate zero y h = tt
