@@ -43,6 +43,9 @@ pub impl From<Placed<KeyFault>> for Placed<SessionFault> as SessionFromKey {
     ghost converts = { λ e r. (r .fault ≡ Key (e .fault)) × (r .place ≡ e .place) };
 
     fn from(e: Placed<KeyFault>) -> Placed<SessionFault> {
-        Placed { fault: SessionFault::Key(e.fault), place: e.place }
+        Placed {
+            fault: SessionFault::Key(e.fault),
+            place: e.place,
+        }
     }
 }

@@ -12,8 +12,11 @@ use suites::mirror::Mirror;
 use suites::mirror::MirrorSuite;
 
 const KEY: [u8; 16] = [0x2a; 16];
+
 const LABEL: &[u8] = b"lift 7, parts sheet 1";
+
 const MESSAGE: &[u8] = b"two door rollers, one guide shoe";
+
 const LEN: usize = 32;
 
 fn main(rt: LibcRuntime) -> io::Result<()> {

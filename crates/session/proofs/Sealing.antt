@@ -78,7 +78,7 @@ opened-into {f} {e} {d} {c} {H} {C} {o} {o′} {tau} {y} {S} {x′} {y′} {g} {
       no =
           λ r t.
           elim (and-cases padded tagged r) [
-            inl e ↦ p-no e (with-ends g tau (ends C) gl few u q qe′ ue (r-is ∙ t .fill ∙ ap (take (16 - ends C)) (sym te)))
-          | inr e ↦ t-no e (with-ends T z (16 - ends C) Tl few′ v p pe′ ve (t .check ∙ ap₂ take (sym back) (sym z-is)))
+            | inl e ↦ p-no e (with-ends g tau (ends C) gl few u q qe′ ue (r-is ∙ t .fill ∙ ap (take (16 - ends C)) (sym te)))
+            | inr e ↦ t-no e (with-ends T z (16 - ends C) Tl few′ v p pe′ ve (t .check ∙ ap₂ take (sym back) (sym z-is)))
           ];
     }

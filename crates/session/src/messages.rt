@@ -1,13 +1,13 @@
 // One whole message sealed or opened, by an engine; the lengths are checked before.
 use crate::blocks::same;
 use crate::engine::Engine;
-use crate::rows::closing;
-use crate::rows::cross;
 use crate::rows::Lanes;
 use crate::rows::Open;
 use crate::rows::OpenWay;
 use crate::rows::Seal;
 use crate::rows::SealWay;
+use crate::rows::closing;
+use crate::rows::cross;
 use poet::complete;
 use poet::xor;
 use suite::HeaderDigest;
@@ -26,10 +26,18 @@ impl<S: Suite> Engine<S> {
     pub(crate) fn new(key: [u8; 16], header: &[u8]) -> Engine<S>
         ensures { λ r. ⌜ EngineAt Permutation·Permutation ChainingHash·ChainingHash (S·Suite .under key) (now (header .entry)) r ⌝ }
     {
-        let Keyed { permutation, hash, mut digest } = S::set_up(key);
+        let Keyed {
+            permutation,
+            hash,
+            mut digest,
+        } = S::set_up(key);
         digest.absorb(header);
         let tau = digest.finish();
-        Engine { permutation, hash, tau }
+        Engine {
+            permutation,
+            hash,
+            tau,
+        }
     }
 
     // Y_0; X_0 is τ.
@@ -56,9 +64,26 @@ impl<S: Suite> Engine<S> {
     {
         let len = message.len();
         let r = len - 16 * ((len - 1) / 16);
-        let from = Lanes { taking: self.tau, giving: self.first_y() };
-        let (end, given) = cross::<Seal, S::Permutation, S::ChainingHash>(&self.permutation, &self.hash, from, self.mask(len), &self.tau, message, out);
-        let z = closing(&self.permutation, &self.hash, self.tau, end.taking, end.giving);
+        let from = Lanes {
+            taking: self.tau,
+            giving: self.first_y(),
+        };
+        let (end, given) = cross::<Seal, S::Permutation, S::ChainingHash>(
+            &self.permutation,
+            &self.hash,
+            from,
+            self.mask(len),
+            &self.tau,
+            message,
+            out,
+        );
+        let z = closing(
+            &self.permutation,
+            &self.hash,
+            self.tau,
+            end.taking,
+            end.giving,
+        );
         *tag = complete(&given[r..16], &z);
     }
 
@@ -71,9 +96,26 @@ impl<S: Suite> Engine<S> {
     {
         let len = ciphertext.len();
         let r = len - 16 * ((len - 1) / 16);
-        let from = Lanes { taking: self.first_y(), giving: self.tau };
-        let (end, given) = cross::<Open, S::Permutation, S::ChainingHash>(&self.permutation, &self.hash, from, self.mask(len), tag, ciphertext, out);
-        let z = closing(&self.permutation, &self.hash, self.tau, end.giving, end.taking);
+        let from = Lanes {
+            taking: self.first_y(),
+            giving: self.tau,
+        };
+        let (end, given) = cross::<Open, S::Permutation, S::ChainingHash>(
+            &self.permutation,
+            &self.hash,
+            from,
+            self.mask(len),
+            tag,
+            ciphertext,
+            out,
+        );
+        let z = closing(
+            &self.permutation,
+            &self.hash,
+            self.tau,
+            end.giving,
+            end.taking,
+        );
         let sound = complete(&given[0..r], &self.tau);
         let expected = complete(&tag[0..16 - r], &z);
         let padded = same(&given, &sound);

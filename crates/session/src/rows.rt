@@ -48,7 +48,12 @@ pub(crate) struct Lanes {
 
 impl Lanes {
     // One row: the block that it gives, with both sequences one block on.
-    pub(crate) fn row<W: Way, P: Permutation, H: ChainingHash>(self, p: &P, h: &H, block: [u8; 16]) -> (Lanes, [u8; 16])
+    pub(crate) fn row<W: Way, P: Permutation, H: ChainingHash>(
+        self,
+        p: &P,
+        h: &H,
+        block: [u8; 16],
+    ) -> (Lanes, [u8; 16])
         ensures { λ r. ⌜ Stepped (W·Way .picks (P·Permutation .enc (now (p .entry))) (P·Permutation .dec (now (p .entry)))) (H·ChainingHash .chain (now (h .entry))) (self .taking) (self .giving) block (r .0 .taking) (r .0 .giving) (r .1) ⌝ }
     {
         let taking = xor(block, h.hash(self.taking));
@@ -58,7 +63,13 @@ impl Lanes {
     }
 
     // The last row, with the mask `s` on both sides of the permutation.
-    pub(crate) fn last_row<W: Way, P: Permutation, H: ChainingHash>(self, p: &P, h: &H, s: [u8; 16], block: [u8; 16]) -> (Lanes, [u8; 16])
+    pub(crate) fn last_row<W: Way, P: Permutation, H: ChainingHash>(
+        self,
+        p: &P,
+        h: &H,
+        s: [u8; 16],
+        block: [u8; 16],
+    ) -> (Lanes, [u8; 16])
         ensures { λ r. ⌜ Ended (W·Way .picks (P·Permutation .enc (now (p .entry))) (P·Permutation .dec (now (p .entry)))) (H·ChainingHash .chain (now (h .entry))) s (self .taking) (self .giving) block (r .0 .taking) (r .0 .giving) (r .1) ⌝ }
     {
         let taking = xor(xor(block, s), h.hash(self.taking));
@@ -68,7 +79,14 @@ impl Lanes {
     }
 
     // n rows over the front of `input`; what they give goes to the front of `out`.
-    pub(crate) fn run<W: Way, P: Permutation, H: ChainingHash>(self, p: &P, h: &H, input: &[u8], out: &mut [u8], n: usize) -> Lanes
+    pub(crate) fn run<W: Way, P: Permutation, H: ChainingHash>(
+        self,
+        p: &P,
+        h: &H,
+        input: &[u8],
+        out: &mut [u8],
+        n: usize,
+    ) -> Lanes
         requires within { ⌜ 16 * n ≤ length (now input) ⌝ }
         requires room { ⌜ 16 * n ≤ length (now out) ⌝ }
         ensures { λ r. ⌜ Ran (W·Way .picks (P·Permutation .enc (now (p .entry))) (P·Permutation .dec (now (p .entry)))) (H·ChainingHash .chain (now (h .entry))) (self .taking) (self .giving) (now (input .entry)) (now (out .entry)) n (r .taking) (r .giving) (now (out .exit)) ⌝ }
@@ -85,7 +103,13 @@ impl Lanes {
 }
 
 // Z, from τ and the last X and Y.
-pub(crate) fn closing<P: Permutation, H: ChainingHash>(p: &P, h: &H, tau: [u8; 16], x: [u8; 16], y: [u8; 16]) -> [u8; 16]
+pub(crate) fn closing<P: Permutation, H: ChainingHash>(
+    p: &P,
+    h: &H,
+    tau: [u8; 16],
+    x: [u8; 16],
+    y: [u8; 16],
+) -> [u8; 16]
     ensures { λ r. ⌜ r ≡ P·Permutation .enc (now (p .entry)) (H·ChainingHash .chain (now (h .entry)) x ⊕ tau) ⊕ H·ChainingHash .chain (now (h .entry)) y ⊕ tau ⌝ }
 {
     let inner = p.encrypt(xor(h.hash(x), tau));
@@ -94,7 +118,15 @@ pub(crate) fn closing<P: Permutation, H: ChainingHash>(p: &P, h: &H, tau: [u8; 1
 
 // Every row over `input`, whose last block `fill` completes, with the mask `s` in the last row. As many bytes as `input` has go to the
 // front of `out`. Answers where both sequences end, and the whole last block that was given.
-pub(crate) fn cross<W: Way, P: Permutation, H: ChainingHash>(p: &P, h: &H, from: Lanes, s: [u8; 16], fill: &[u8; 16], input: &[u8], out: &mut [u8]) -> (Lanes, [u8; 16])
+pub(crate) fn cross<W: Way, P: Permutation, H: ChainingHash>(
+    p: &P,
+    h: &H,
+    from: Lanes,
+    s: [u8; 16],
+    fill: &[u8; 16],
+    input: &[u8],
+    out: &mut [u8],
+) -> (Lanes, [u8; 16])
     requires some { ⌜ 1 ≤ length (now input) ⌝ }
     requires room { ⌜ length (now input) ≤ length (now out) ⌝ }
     ensures { λ r. ⌜ Crossed (W·Way .picks (P·Permutation .enc (now (p .entry))) (P·Permutation .dec (now (p .entry)))) (H·ChainingHash .chain (now (h .entry))) s (from .taking) (from .giving) (now (fill .entry)) (now (input .entry)) (now (out .entry)) (now (out .exit)) (r .0 .taking) (r .0 .giving) (r .1) ⌝ }

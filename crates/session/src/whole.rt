@@ -9,7 +9,13 @@ use suite::Suite;
 ghost use Rattle.session.specs.Calls.{Opening, Sealing};
 
 // Seals `message` under `key` and `header`: the ciphertext goes to the front of `out`, and the tag to `tag`. Answers the bytes written to `out`.
-pub fn seal<S: Suite>(key: &[u8], header: &[u8], message: &[u8], out: &mut [u8], tag: &mut [u8; 16]) -> Result<usize, Placed<SessionFault>>
+pub fn seal<S: Suite>(
+    key: &[u8],
+    header: &[u8],
+    message: &[u8],
+    out: &mut [u8],
+    tag: &mut [u8; 16],
+) -> Result<usize, Placed<SessionFault>>
     ensures { λ r. ⌜ Sealing (S·Suite .under) (now (key .entry)) (now (header .entry)) (now (message .entry)) (now (out .entry)) (now (tag .entry)) (now (out .exit)) (now (tag .exit)) r ⌝ }
 {
     let key = checked(key, header, message, out.len())?;
@@ -19,7 +25,13 @@ pub fn seal<S: Suite>(key: &[u8], header: &[u8], message: &[u8], out: &mut [u8],
 }
 
 // Opens `ciphertext` under `key` and `header` if `tag` is its tag: the message goes to the front of `out`. Answers the bytes written.
-pub fn open<S: Suite>(key: &[u8], header: &[u8], ciphertext: &[u8], tag: &[u8], out: &mut [u8]) -> Result<usize, Placed<SessionFault>>
+pub fn open<S: Suite>(
+    key: &[u8],
+    header: &[u8],
+    ciphertext: &[u8],
+    tag: &[u8],
+    out: &mut [u8],
+) -> Result<usize, Placed<SessionFault>>
     ensures { λ r. ⌜ Opening (S·Suite .under) (now (key .entry)) (now (header .entry)) (now (ciphertext .entry)) (now (tag .entry)) (now (out .entry)) (now (out .exit)) r ⌝ }
 {
     let key = checked(key, header, ciphertext, out.len())?;
@@ -30,5 +42,8 @@ pub fn open<S: Suite>(key: &[u8], header: &[u8], ciphertext: &[u8], tag: &[u8], 
         return Ok(len);
     }
     out[0..len].fill(0);
-    Err(Placed { fault: SessionFault::Forged, place: len })
+    Err(Placed {
+        fault: SessionFault::Forged,
+        place: len,
+    })
 }

@@ -53,7 +53,9 @@ pub struct Keyed<P, H, D> {
 
 pub trait Suite {
     type Permutation: Permutation + Drop;
+
     type ChainingHash: ChainingHash + Drop;
+
     type HeaderDigest: HeaderDigest + Drop;
 
     // the suite's number

@@ -49,17 +49,17 @@ filled-front p q l s =
 pub filled-whole : (H : List ℕ) → (16 ≤ length (filled H)) × (length (filled H) % 16 ≡ 0)
 filled-whole H =
     elim (cases-bool (stays H)) [
-      inl e ↦ (
-        let f = and-parts (ltb 0 (length H)) (eqb (length H % 16) 0) e in
-        let a = ltb-true 0 (length H) (f .0) in
-        let b = eqb-true (length H % 16) 0 (f .1) in
-        rw (filled-stays H e) (omega arith, b)
-      )
-    | inr e ↦ (
-        let n = length-append H (padding H) in
-        let m = length-replicate {A = ℕ} (15 - length H % 16) 0 in
-        rw (filled-padded H e) (omega arith, omega arith)
-      )
+      | inl e ↦ (
+          let f = and-parts (ltb 0 (length H)) (eqb (length H % 16) 0) e in
+          let a = ltb-true 0 (length H) (f .0) in
+          let b = eqb-true (length H % 16) 0 (f .1) in
+          rw (filled-stays H e) (omega arith, b)
+          )
+      | inr e ↦ (
+          let n = length-append H (padding H) in
+          let m = length-replicate {A = ℕ} (15 - length H % 16) 0 in
+          rw (filled-padded H e) (omega arith, omega arith)
+          )
     ]
 
 block-first : (p B : List ℕ) → length p ≡ 16 → block 0 (p ++ B) ≡ p
@@ -100,26 +100,26 @@ chained-last e c x y H p f l = rw (f, l) (ap (λ b. c y ⊕ e (c x ⊕ b)) (take
 short : (H : List ℕ) → length H ≤ 16 → stays H ≡ false → length H < 16
 short H l e =
     elim (and-cases (ltb 0 (length H)) (eqb (length H % 16) 0) e) [
-      inl a ↦ (let z = ltb-false 0 (length H) a in omega arith)
-    | inr a ↦ (let z = eqb-false (length H % 16) 0 a in omega arith)
+      | inl a ↦ (let z = ltb-false 0 (length H) a in omega arith)
+      | inr a ↦ (let z = eqb-false (length H % 16) 0 a in omega arith)
     ]
 
 filled-end : (H : List ℕ) → length H ≤ 16 → filled H ≡ take 16 (H ++ 0x80 ∷ replicate 15 0)
 filled-end H l =
     elim (cases-bool (stays H)) [
-      inl e ↦ (
-        let f = and-parts (ltb 0 (length H)) (eqb (length H % 16) 0) e in
-        let a = ltb-true 0 (length H) (f .0) in
-        let b = eqb-true (length H % 16) 0 (f .1) in
-        filled-stays H e ∙ sym (take-at H (0x80 ∷ replicate 15 0) 16 (omega arith))
-      )
-    | inr e ↦ (
-        let s : length H < 16 = short H l e in
-        let m : length H % 16 ≡ length H = omega arith in
-        let k : 16 - length H ≡ suc (15 - length H) = omega arith in
-        filled-padded H e ∙ ap (λ n. H ++ 0x80 ∷ replicate (15 - n) 0) m
-        ∙ sym (completes H (0x80 ∷ replicate 15 0) l ∙ ap (λ n. H ++ take n (0x80 ∷ replicate 15 0)) k ∙ ap (λ z. H ++ 0x80 ∷ z) (take-replicate (15 - length H) 15 0 (omega arith)))
-      )
+      | inl e ↦ (
+          let f = and-parts (ltb 0 (length H)) (eqb (length H % 16) 0) e in
+          let a = ltb-true 0 (length H) (f .0) in
+          let b = eqb-true (length H % 16) 0 (f .1) in
+          filled-stays H e ∙ sym (take-at H (0x80 ∷ replicate 15 0) 16 (omega arith))
+          )
+      | inr e ↦ (
+          let s : length H < 16 = short H l e in
+          let m : length H % 16 ≡ length H = omega arith in
+          let k : 16 - length H ≡ suc (15 - length H) = omega arith in
+          filled-padded H e ∙ ap (λ n. H ++ 0x80 ∷ replicate (15 - n) 0) m
+          ∙ sym (completes H (0x80 ∷ replicate 15 0) l ∙ ap (λ n. H ++ take n (0x80 ∷ replicate 15 0)) k ∙ ap (λ z. H ++ 0x80 ∷ z) (take-replicate (15 - length H) 15 0 (omega arith)))
+          )
     ]
 
 -- with the bytes that are left, and a block of 80 and zeros behind them
@@ -132,8 +132,8 @@ filled-bytes : (H : List ℕ) → Bytes H → Bytes (filled H)
 unfolding Bytes
 filled-bytes H b =
     elim (cases-bool (stays H)) [
-      inl e ↦ rw (filled-stays H e) b
-    | inr e ↦ rw (filled-padded H e) (bytes-append H (padding H) b (lit< tt, bytes-replicate (15 - length H % 16) 0 (lit< tt)))
+      | inl e ↦ rw (filled-stays H e) b
+      | inr e ↦ rw (filled-padded H e) (bytes-append H (padding H) b (lit< tt, bytes-replicate (15 - length H % 16) 0 (lit< tt)))
     ]
 
 module _ (e c : List ℕ → List ℕ) (eb : (b : List ℕ) → Block b → Block (e b)) (cb : (b : List ℕ) → Block b → Block (c b)) (x y : List ℕ) (xb : Block x) (yb : Block y) (B : List ℕ) (bb : Bytes B) where

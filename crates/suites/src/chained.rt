@@ -32,7 +32,14 @@ impl<P: Permutation, H: ChainingHash> Chained<P, H> {
         ensures parts { λ r. ⌜ (r .permutation ≡ permutation) × (r .hash ≡ hash) ⌝ }
         ensures rows { λ r. ⌜ (r .x ≡ first) × (r .y ≡ first) × (r .len ≡ 0) ⌝ }
     {
-        Chained { permutation, hash, x: first, y: first, held: [0; 16], len: 0 }
+        Chained {
+            permutation,
+            hash,
+            x: first,
+            y: first,
+            held: [0; 16],
+            len: 0,
+        }
     }
 
     // One byte more.
@@ -53,7 +60,10 @@ impl<P: Permutation, H: ChainingHash> Chained<P, H> {
     }
 }
 
-pub impl<P: Permutation + Drop, H: ChainingHash + Drop> HeaderDigest for Chained<P, H> as ChainedDigest {
+pub impl<P: Permutation + Drop, H: ChainingHash + Drop> HeaderDigest for Chained<
+    P,
+    H,
+> as ChainedDigest {
     ghost rule = { λ s r. chained (P·Permutation .enc (s .permutation)) (H·ChainingHash .chain (s .hash)) (s .x) (s .y) (take (s .len) (s .held) ++ r) };
 
     fn absorb(&mut self, p: &[u8]) {
@@ -63,7 +73,14 @@ pub impl<P: Permutation + Drop, H: ChainingHash + Drop> HeaderDigest for Chained
     }
 
     fn finish(self) -> [u8; 16] {
-        let Chained { permutation, hash, x, y, held, len } = self;
+        let Chained {
+            permutation,
+            hash,
+            x,
+            y,
+            held,
+            len,
+        } = self;
         let block = complete(&held[0..len], &PADDING);
         let last = permutation.encrypt(xor(hash.hash(x), block));
         xor(hash.hash(y), last)

@@ -45,7 +45,9 @@ pub struct Mirror;
 
 pub impl Suite for Mirror as MirrorSuite {
     type Permutation = Reversal;
+
     type ChainingHash = Identity;
+
     type HeaderDigest = Chained<Reversal, Identity>;
 
     ghost number = { 4 };
@@ -62,6 +64,10 @@ pub impl Suite for Mirror as MirrorSuite {
 
     fn set_up(_key: [u8; 16]) -> Keyed<Reversal, Identity, Chained<Reversal, Identity>> {
         let digest = Chained::new(Reversal, Identity, big_endian(1));
-        Keyed { permutation: Reversal, hash: Identity, digest }
+        Keyed {
+            permutation: Reversal,
+            hash: Identity,
+            digest,
+        }
     }
 }

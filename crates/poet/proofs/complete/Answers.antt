@@ -12,11 +12,10 @@ pub loop-k-again : need.loop-k-again
 loop-k-again c =
     let l : c .loop-k .k < length (c .loop-k .b) = omega arith in
     let p = c .args .front .now in
-    let q = c .args .fill .now in
-    (
+    let q = c .args .fill .now in (
       simp length-set (omega arith),
       filled-more (c .loop-k .b) (p ++ q) (c .loop-k .k) (c .if-k-n .byte) l (c .loop-k .inv .1)
-      (elim (c .if-k-n .came) [ then-k-n w ↦ w .byte-is ∙ sym (getD-append-left p q 0 (c .loop-k .k) (omega arith)) | else-k-n w ↦ w .byte-is ∙ sym (getD-append-right p q (length p) (c .loop-k .k) 0 (omega arith) (omega arith)) ]),
+          (elim (c .if-k-n .came) [ then-k-n w ↦ w .byte-is ∙ sym (getD-append-left p q 0 (c .loop-k .k) (omega arith)) | else-k-n w ↦ w .byte-is ∙ sym (getD-append-right p q (length p) (c .loop-k .k) 0 (omega arith) (omega arith)) ]),
     )
 
 pub returns : need.returns
