@@ -1,0 +1,5 @@
+pub mod State
+pub mod Cipher
+pub mod Expansion
+pub mod Grouping
+pub mod Laws

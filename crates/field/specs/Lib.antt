@@ -1,0 +1,4 @@
+pub mod Field
+pub mod Substitution
+pub mod Columns
+pub mod Laws
