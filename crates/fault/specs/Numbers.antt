@@ -6,12 +6,13 @@ use Rattle.std.specs.Written.{decimal}
 use Rattle.fault.specs.declared.kinds.Layer.{Layer}
 use Rattle.fault.specs.declared.kinds.Layer.the-variants.{Key as KeyLayer, Session as SessionLayer}
 use Rattle.fault.specs.declared.kinds.KeyFault.{KeyFault}
-use Rattle.fault.specs.declared.kinds.KeyFault.the-variants.{Length}
+use Rattle.fault.specs.declared.kinds.KeyFault.the-variants.{Suite, Length}
 use Rattle.fault.specs.declared.kinds.SessionFault.{SessionFault}
 use Rattle.fault.specs.declared.kinds.SessionFault.the-variants.{Key, Header, Body, Room, Empty, Tag, Forged}
 use Rattle.fault.specs.declared.kinds.Placed.{Placed}
 
 abbrev pub keyNumber : KeyFault → ℕ
+keyNumber Suite = 2
 keyNumber Length = 3
 
 abbrev pub numberOf : SessionFault → ℕ

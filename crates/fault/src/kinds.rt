@@ -10,6 +10,8 @@ pub enum Layer {
 
 #[derive(Debug, PartialEq, Eq, Clone, Copy)]
 pub enum KeyFault {
+    // the suite is not listed
+    Suite,
     // the key has not 16 bytes
     Length,
 }

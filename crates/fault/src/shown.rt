@@ -13,6 +13,7 @@ impl KeyFault {
         ensures { λ r. ⌜ r ≡ keyNumber (now (self .entry)) ⌝ }
     {
         match self {
+            KeyFault::Suite => 2,
             KeyFault::Length => 3,
         }
     }

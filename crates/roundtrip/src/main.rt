@@ -1,15 +1,13 @@
-// Seals one message under a label with a key, opens it again, and shows that a tag with one bit turned is refused.
+// Seals one message under a label with a key, opens it again, and shows that a tag with one bit turned is refused: the whole of it under
+// each listed suite, which is told by its number.
 mod hex;
 
+use delivery::message::open;
+use delivery::message::seal;
 use fault::shown::SessionFaultDisplay;
 use hex::Hex;
 use hex::HexDisplay;
-use session::whole::open;
-use session::whole::seal;
 use std::io;
-use suite::Suite;
-use suites::mirror::Mirror;
-use suites::mirror::MirrorSuite;
 
 const KEY: [u8; 16] = [0x2a; 16];
 
@@ -22,31 +20,31 @@ const LEN: usize = 32;
 fn main(rt: LibcRuntime) -> io::Result<()> {
     println!(rt, "label      {}", Hex(LABEL))?;
     println!(rt, "message    {}", Hex(MESSAGE))?;
-    trip::<Mirror>(&rt)
+    trip(&rt, 1)?;
+    trip(&rt, 4)
 }
 
 // The whole task under one suite.
-fn trip<S: Suite>(rt: &LibcRuntime) -> io::Result<()> {
-    let number = S::number();
-    println!(rt, "suite {number}")?;
+fn trip(rt: &LibcRuntime, suite: u8) -> io::Result<()> {
+    println!(rt, "suite {suite}")?;
     let mut ciphertext = [0; LEN];
     let mut tag = [0; 16];
-    match seal::<S>(&KEY, LABEL, MESSAGE, &mut ciphertext, &mut tag) {
+    match seal(suite, &KEY, LABEL, MESSAGE, &mut ciphertext, &mut tag) {
         Ok(n) => println!(rt, "sealed: {n} bytes")?,
         Err(fault) => println!(rt, "{fault}")?,
     }
     println!(rt, "ciphertext {}", Hex(&ciphertext))?;
     println!(rt, "tag        {}", Hex(&tag))?;
-    unseal::<S>(rt, &ciphertext, &tag)?;
+    unseal(rt, suite, &ciphertext, &tag)?;
     tag[15] ^= 1;
     println!(rt, "the tag's last bit turned")?;
-    unseal::<S>(rt, &ciphertext, &tag)
+    unseal(rt, suite, &ciphertext, &tag)
 }
 
 // Opens, and prints the verdict and what the buffer then holds.
-fn unseal<S: Suite>(rt: &LibcRuntime, ciphertext: &[u8; LEN], tag: &[u8; 16]) -> io::Result<()> {
+fn unseal(rt: &LibcRuntime, suite: u8, ciphertext: &[u8; LEN], tag: &[u8; 16]) -> io::Result<()> {
     let mut message = [0xff; LEN];
-    match open::<S>(&KEY, LABEL, ciphertext, tag, &mut message) {
+    match open(suite, &KEY, LABEL, ciphertext, tag, &mut message) {
         Ok(n) => println!(rt, "opened: {n} bytes")?,
         Err(fault) => println!(rt, "{fault}")?,
     }

@@ -1,3 +1,5 @@
 pub mod Chains
 pub mod Pushes
+pub mod Endian
 pub mod Mirrors
+pub mod Shafts

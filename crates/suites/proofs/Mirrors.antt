@@ -1,17 +1,17 @@
 -- The mirror suite is lawful.
-use mathlib.Core.Path.{_≡_, refl, _∙_}
+use mathlib.Core.Path.{_∙_}
 use mathlib.Core.List.{List, reverse}
 use Prim.Native.Nat.{ℕ, _-_, _<_}
 use native.Mathlib.Omega.{arith}
-use lib.Dec.{lit<}
-use lib.ListN.{length, getD, drop, replicate}
+use lib.ListN.{length, getD}
 use Rattle.std.proofs.shelf.Lists.{length-reverse, getD-reverse, reverse-reverse}
-use Rattle.poet.specs.Bytes.{Bytes, Block}
+use Rattle.poet.specs.Bytes.{Block}
 use Rattle.poet.specs.Functions.{Permutes, Lawful}
-use Rattle.poet.proofs.Xors.{bytes-from, bytes-at, bytes-append, bytes-replicate}
+use Rattle.poet.proofs.Xors.{bytes-from, bytes-at}
 use Rattle.suites.specs.Numbers.{bigEndian}
 use Rattle.suites.specs.Mirror.{mirror}
 use Rattle.suites.proofs.Chains.{chained-block}
+use Rattle.suites.proofs.Endian.{big-endian-block}
 
 reverse-block : (b : List ℕ) → Block b → Block (reverse b)
 reverse-block b p =
@@ -20,13 +20,6 @@ reverse-block b p =
 
 pub reversal : Permutes reverse reverse
 reversal = record { dec-enc = λ b p. reverse-reverse b; enc-dec = λ b p. reverse-reverse b; enc-block = reverse-block; dec-block = reverse-block }
-
-low-bytes : (n : ℕ) → Bytes (drop 8 (bigEndian n))
-unfolding Bytes
-low-bytes n = (omega arith, (omega arith, (omega arith, (omega arith, (omega arith, (omega arith, (omega arith, (omega arith, tt))))))))
-
-pub big-endian-block : (n : ℕ) → Block (bigEndian n)
-big-endian-block n = record { long = refl; bytes = bytes-append (replicate 8 0) (drop 8 (bigEndian n)) (bytes-replicate 8 0 (lit< tt)) (low-bytes n) }
 
 pub mirror-lawful : (key : List ℕ) → Block key → Lawful (mirror key)
 mirror-lawful key k = record {

@@ -1,3 +1,4 @@
 pub mod Numbers
 pub mod Chained
 pub mod Mirror
+pub mod Shaft

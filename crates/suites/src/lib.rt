@@ -2,3 +2,4 @@
 pub mod chained;
 pub mod mirror;
 pub mod numbers;
+pub mod shaft;

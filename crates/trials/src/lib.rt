@@ -1,5 +1,11 @@
-// Tests over all layers: published and given figures, and every refusal at its limit and one past it.
+// Tests over all layers: given figures, seals by another program, and every refusal at its limit and one past it.
 #[cfg(test)]
 mod figures;
 #[cfg(test)]
 mod refusals;
+#[cfg(test)]
+mod shaft;
+#[cfg(test)]
+mod unlisted;
+#[cfg(test)]
+mod vectors;
