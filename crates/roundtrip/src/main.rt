@@ -1,6 +1,5 @@
 // Seals one message under a label with a key, opens it again, and shows that a tag with one bit turned is refused: the whole of it under
 // each listed suite, which is told by its number.
-mod hex;
 
 use delivery::message::open;
 use delivery::message::seal;

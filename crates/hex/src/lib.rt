@@ -1,4 +1,4 @@
-// Bytes as hexadecimal text.
+// Bytes as hexadecimal text, for the programs.
 use std::fmt;
 
 #[derive(Clone, Copy)]
