@@ -13,7 +13,7 @@ use Rattle.fault.specs.declared.kinds.SessionFault.{SessionFault}
 use Rattle.fault.specs.declared.kinds.SessionFault.the-variants.{Key}
 use Rattle.fault.specs.declared.kinds.Placed.{Placed}
 use Rattle.poet.specs.Functions.{Functions}
-use Rattle.session.specs.Calls.{Sealing, Opening}
+use Rattle.session.specs.Calls.{SealCall, OpenCall}
 use Rattle.suites.specs.Mirror.{mirror}
 use Rattle.suites.specs.Shaft.{shaft}
 
@@ -31,8 +31,8 @@ notListed n = record { fault = Key Suite; place = n }
 -- sealing and opening under the suite with the number n
 abbrev pub SealingUnder : Option (List ℕ → Functions) → (n : ℕ) (key H M o t o′ t′ : List ℕ) → Result ℕ (Placed SessionFault) → Type 0
 SealingUnder None n key H M o t o′ t′ r = (r ≡ Err (notListed n)) × (o′ ≡ o) × (t′ ≡ t)
-SealingUnder (Some under) n key H M o t o′ t′ r = Sealing under key H M o t o′ t′ r
+SealingUnder (Some under) n key H M o t o′ t′ r = SealCall under key H M o t o′ t′ r
 
 abbrev pub OpeningUnder : Option (List ℕ → Functions) → (n : ℕ) (key H C T o o′ : List ℕ) → Result ℕ (Placed SessionFault) → Type 0
 OpeningUnder None n key H C T o o′ r = (r ≡ Err (notListed n)) × (o′ ≡ o)
-OpeningUnder (Some under) n key H C T o o′ r = Opening under key H C T o o′ r
+OpeningUnder (Some under) n key H C T o o′ r = OpenCall under key H C T o o′ r

@@ -1,131 +1,96 @@
--- The calls for whole buffers: from the checks that are passed to what the call's contract says.
+-- The calls for whole buffers: from their checks and the session that they run to what their contracts say.
 use mathlib.Core.Path.{_≡_, refl, ap, sym, _∙_, subst}
-use mathlib.Core.Bool.{Bool, true, false, not, cond}
+use mathlib.Core.Bool.{true}
 use mathlib.Core.List.{List, _++_}
-use Prim.Native.Nat.{ℕ, _≤_, _<_}
+use Prim.Native.Nat.{ℕ, _+_, _-_, _*_, _/_, _≤_}
 use native.Mathlib.Omega.{arith}
-use borrow.Author.Tests.{ltb-false, eqb-true, eqb-false, not-false}
-use lib.Dec.{eqb, ltb}
-use lib.ListN.{length, take, drop, replicate}
+use borrow.Author.Tests.{ltb-false}
+use borrow.Rule.Slice.PartMut.{putMid}
+use lib.Dec.{eqb}
+use lib.ListN.{length, take, drop, replicate, length-take}
+use Rattle.std.proofs.shelf.Lists.{drop-drop}
+use Rattle.std.proofs.shelf.Parts.{take-putMid, drop-putMid}
 use Rattle.std.specs.declared.option.Option.{Option}
 use Rattle.std.specs.declared.option.Option.the-variants.{Some, None}
 use Rattle.std.specs.declared.result.Result.{Result}
 use Rattle.std.specs.declared.result.Result.the-variants.{Ok, Err}
 use Rattle.fault.specs.declared.kinds.SessionFault.{SessionFault}
-use Rattle.fault.specs.declared.kinds.SessionFault.the-variants.{Forged}
 use Rattle.fault.specs.declared.kinds.Placed.{Placed}
-use Rattle.poet.specs.Bytes.{Bytes, Block}
-use Rattle.poet.specs.Functions.{Functions, Lawful}
-use Rattle.poet.specs.Seal.{Limits, Seals}
-use Rattle.poet.specs.Rows.{Accepts, opened}
-use Rattle.poet.proofs.Computing.{computing-law}
-use Rattle.poet.proofs.Accepting.{opening-law}
+use Rattle.poet.specs.Functions.{Functions}
+use Rattle.poet.specs.Seal.{Seals}
+use Rattle.session.specs.declared.straight.Tail.{Tail}
+use Rattle.session.specs.Calls.{answered, bodyChecks, checks, keyCheck, tagCheck, FillBy, Sealed, SealingBy, SealCall, Opened, Refused, Judged, OpeningBy, OpenCall}
+use Rattle.session.specs.Straight.{Cut, handed, SealRun, OpenRun}
 use Rattle.session.proofs.Bytewise.{zeroed}
-use Rattle.session.specs.Engines.{SealedInto, Tests, OpenedInto}
-use Rattle.session.specs.Calls.{checks, tagCheck, answered, Sealed, SealingBy, Sealing, Opened, Refused, Judged, OpeningBy, Opening}
+use Rattle.session.proofs.Calling.{fill-ok}
+use Rattle.session.proofs.Passing.{Passed, passed, passes, answered-ok, only-none}
 
--- an answer comes only where no check fails
-answered-ok : {F X : Type 0} (o : Option (Placed F)) (x y : X) → Ok y ≡ answered o x → (o ≡ None) × (y ≡ x)
-answered-ok None x y e = (refl, cc)
-answered-ok (Some f) x y e = let z : _≡_ {A = ℕ} 0 1 = cc in absurd (omega arith)
+-- lists that are the same from n on are so from k on
+past-front : (n k : ℕ) (a b : List ℕ) → n ≤ k → drop n a ≡ drop n b → drop k a ≡ drop k b
+past-front n k a b l e =
+    let j : n + (k - n) ≡ k = omega arith in
+    ap (λ i. drop i a) (sym j) ∙ sym (drop-drop (k - n) n a) ∙ ap (drop (k - n)) e ∙ drop-drop (k - n) n b ∙ ap (λ i. drop i b) j
 
-first-none : {F : Type 0} (t : Bool) (e : F) (rest : Option F) → cond t (Some e) rest ≡ None → (t ≡ false) × (rest ≡ None)
-first-none true e rest p = let z : _≡_ {A = ℕ} 0 1 = cc in absurd (omega arith)
-first-none false e rest p = (refl, p)
+-- the last bytes, written behind those that body calls gave; k is how the code counts them
+written : (a o o₁ : List ℕ) (e : Tail) (w : List ℕ) (k : ℕ) → Cut a o o₁ e → length o₁ ≡ length o → length a ≤ length o → length (e .last) ≡ 16 → k ≡ e .len → w ≡ take k (e .last)
+    → (take (length a) (putMid (e .given) (length a - e .given) o₁ w) ≡ handed o₁ e) × (drop (length a) (putMid (e .given) (length a - e .given) o₁ w) ≡ drop (length a) o)
+written a o o₁ e w k c lo room ll ke we =
+    let n = c .len in
+    let wl : length w ≡ e .len = ap length we ∙ length-take k (e .last) ∙ omega (arith, c .few) in (
+      take-putMid (e .given) (length a - e .given) o₁ w (length a) (omega arith) (omega arith) ∙ ap (λ z. take (e .given) o₁ ++ z) (we ∙ ap (λ i. take i (e .last)) ke),
+      drop-putMid (e .given) (length a - e .given) o₁ w (length a) (omega arith) (omega arith) (omega arith) ∙ past-front (e .given) (length a) o₁ o (omega arith) (c .rest),
+    )
 
-only-none : {F : Type 0} (t : Bool) (e : F) → cond t None (Some e) ≡ None → t ≡ true
-only-none true e p = refl
-only-none false e p = let z : _≡_ {A = ℕ} 0 1 = cc in absurd (omega arith)
+module _ (under : List ℕ → Functions) (key z b H M o : List ℕ) (filled : FillBy (keyCheck (length key)) key z b (Ok tt)) (ok : _≡_ {A = Result (Unit {0}) (Placed SessionFault)} (Ok tt) (answered (bodyChecks (length H) (length M) (length o) None) tt)) where
+  key-none : (keyCheck (length key) ≡ None) × (b ≡ key)
+  key-none = fill-ok (keyCheck (length key)) key z b filled
 
--- the checks, passed
-record Passed (k h b r : ℕ) : Type 0 where
-  key : eqb k 16 ≡ true
-  header : ltb 65536 h ≡ false
-  most : ltb 1048576 b ≡ false
-  room : ltb r b ≡ false
-  some : eqb b 0 ≡ false
+  sixteen : eqb (length key) 16 ≡ true
+  sixteen = only-none (eqb (length key) 16) _ (key-none .0)
 
-passed : (k h b r : ℕ) → checks k h b r None ≡ None → Passed k h b r
-passed k h b r p =
-    let a = first-none (not (eqb k 16)) _ _ p in
-    let c = first-none (ltb 65536 h) _ _ (a .1) in
-    let d = first-none (ltb 1048576 b) _ _ (c .1) in
-    let e = first-none (ltb r b) _ _ (d .1) in
-    let f = first-none (eqb b 0) _ _ (e .1) in
-    record { key = not-false (eqb k 16) (a .0); header = c .0; most = d .0; room = e .0; some = f .0 }
+  pass : Passed (length H) (length M) (length o)
+  pass = passed (length H) (length M) (length o) (answered-ok {X = Unit {0}} (bodyChecks (length H) (length M) (length o) None) tt tt ok .0)
 
-passes : (k h b r : ℕ) (more : Option (Placed SessionFault)) → Passed k h b r → checks k h b r more ≡ more
-passes k h b r more p = rw (p .key, p .header, p .most, p .room, p .some)
+  room : length M ≤ length o
+  room = ltb-false (length o) (length M) (pass .room)
 
-limits : (k r : ℕ) (H M : List ℕ) → Passed k (length H) (length M) r → Bytes H → Bytes M → Limits H M
-limits k r H M p hb mb = record {
-  header-bytes = hb;
-  header-most = ltb-false 65536 (length H) (p .header);
-  bytes = mb;
-  some = let n = eqb-false (length M) 0 (p .some) in omega arith;
-  most = ltb-false 1048576 (length M) (p .most);
-}
+  checks-are : (more : Option (Placed SessionFault)) → checks (length key) (length H) (length M) (length o) more ≡ more
+  checks-are more = rw sixteen (passes (length H) (length M) (length o) more pass)
 
-module _ (under : List ℕ → Functions) (L : (key : List ℕ) → Block key → Lawful (under key)) (key key′ H M o : List ℕ) (kb : Bytes key) (hb : Bytes H) (mb : Bytes M)
-    (ok : Ok key′ ≡ answered (checks (length key) (length H) (length M) (length o) None) key) where
-  none : (checks (length key) (length H) (length M) (length o) None ≡ None) × (key′ ≡ key)
-  none = answered-ok (checks (length key) (length H) (length M) (length o) None) key key′ ok
-
-  pass : Passed (length key) (length H) (length M) (length o)
-  pass = passed (length key) (length H) (length M) (length o) (none .0)
-
-  lim : Limits H M
-  lim = limits (length key) (length o) H M pass hb mb
-
-  lawful : Lawful (under key)
-  lawful = L key (record { long = eqb-true (length key) 16 (pass .key); bytes = kb })
-
-  pub sealing-stands : (t o′ t′ : List ℕ) → SealedInto (under key′) H M o o′ t′ → Sealing under key H M o t o′ t′ (Ok (length M))
-  sealing-stands t o′ t′ s′ =
-      let s : SealedInto (under key) H M o o′ t′ = subst (λ (k : List ℕ). SealedInto (under k) H M o o′ t′) (none .1) s′ in
-      let made : Sealed (under key) H M o o′ t′ = record {
-        seals = computing-law (under key) lawful H M (take (length M) o′) t′ .0 (record { limits = lim; cipher-is = s .out; tag-is = s .tag-is });
-        rest = s .rest;
+  pub sealing-stands : (t o₁ t′ w : List ℕ) (e : Tail) (k : ℕ) → SealRun (under b) H M o o₁ t′ (Ok e) → length o₁ ≡ length o → length (e .last) ≡ 16 → k ≡ e .len → w ≡ take k (e .last)
+      → SealCall under key H M o t (putMid (e .given) (length M - e .given) o₁ w) t′ (Ok (length M))
+  sealing-stands t o₁ t′ w e k s lo ll ke we =
+      let x = written M o o₁ e w k (s .0) lo room ll ke we in
+      let made : Sealed (under key) H M o (putMid (e .given) (length M - e .given) o₁ w) t′ = record {
+        seals = rw (x .0) (subst (λ (i : List ℕ). Seals (under i) H M (handed o₁ e) t′) (key-none .1) (s .1));
+        rest = x .1;
       } in
-      subst (λ (c : Option (Placed SessionFault)). SealingBy c (under key) H M o t o′ t′ (Ok (length M))) (sym (none .0)) (refl, made)
+      subst (λ (c : Option (Placed SessionFault)). SealingBy c (under key) H M o t (putMid (e .given) (length M - e .given) o₁ w) t′ (Ok (length M))) (sym (checks-are None)) (refl, made)
 
-  -- opening M, which is a ciphertext here
-  module _ (T T′ : List ℕ) (tb : Bytes T) (tok : Ok T′ ≡ answered (tagCheck (length T)) T) (o₁ : List ℕ) (r : Bool) (s′ : OpenedInto (under key′) H M T′ o o₁ r) where
-    tag-none : (tagCheck (length T) ≡ None) × (T′ ≡ T)
-    tag-none = answered-ok (tagCheck (length T)) T T′ tok
+  -- opening M, which is a ciphertext here; T is the tag given, and T′ what its check answered
+  module _ (T T′ : List ℕ) (tok : Ok T′ ≡ answered (tagCheck (length T) 0) T) (o₁ : List ℕ) (lo : length o₁ ≡ length o) where
+    tag-none : (tagCheck (length T) 0 ≡ None) × (T′ ≡ T)
+    tag-none = answered-ok (tagCheck (length T) 0) T T′ tok
 
-    tag-block : Block T
-    tag-block = record { long = eqb-true (length T) 16 (only-none (eqb (length T) 16) _ (tag-none .0)); bytes = tb }
+    none : checks (length key) (length H) (length M) (length o) (tagCheck (length T) 0) ≡ None
+    none = checks-are (tagCheck (length T) 0) ∙ tag-none .0
 
-    s : OpenedInto (under key) H M T o o₁ r
-    s = subst (λ (t : List ℕ). OpenedInto (under key) H M t o o₁ r) (tag-none .1) (subst (λ (k : List ℕ). OpenedInto (under k) H M T′ o o₁ r) (none .1) s′)
+    pub accepting-stands : (w : List ℕ) (e : Tail) (k : ℕ) → OpenRun (under b) H M T′ o o₁ (Ok e) → length (e .last) ≡ 16 → k ≡ e .len → w ≡ take k (e .last) → OpenCall under key H M T o (putMid (e .given) (length M - e .given) o₁ w) (Ok (length M))
+    accepting-stands w e k s′ ll ke we =
+        let s : OpenRun (under key) H M T o o₁ (Ok e) = subst (λ (i : List ℕ). OpenRun (under key) H M i o o₁ (Ok e)) (tag-none .1) (subst (λ (i : List ℕ). OpenRun (under i) H M T′ o o₁ (Ok e)) (key-none .1) s′) in
+        let x = written M o o₁ e w k (s .0) lo room ll ke we in
+        let made : Opened (under key) H M T o (putMid (e .given) (length M - e .given) o₁ w) = record { seals = rw (x .0) (s .1); only = λ m q. s .2 m q ∙ sym (x .0); rest = x .1 } in
+        subst (λ (c : Option (Placed SessionFault)). OpeningBy c (under key) H M T o (putMid (e .given) (length M - e .given) o₁ w) (Ok (length M))) (sym none) (refl, made)
 
-    checks-none : checks (length key) (length H) (length M) (length o) (tagCheck (length T)) ≡ None
-    checks-none = passes (length key) (length H) (length M) (length o) (tagCheck (length T)) pass ∙ tag-none .0
-
-    accepts : Tests (under key) H M T → Accepts (under key) H M T
-    accepts t = record { limits = lim; tag-block = tag-block; fill = t .fill; check = t .check }
-
-    -- accepted
-    pub accepting-stands : r ≡ true → Opening under key H M T o o₁ (Ok (length M))
-    accepting-stands e =
-        let O = opening-law (under key) lawful H M T in
-        let yes : Opened (under key) H M T o o₁ = record {
-          seals = rw (s .out) (O .computes (accepts (s .yes e)));
-          only = λ m p. O .only m p ∙ sym (s .out);
-          rest = s .rest;
+    -- w stands in front after it was filled with zeros
+    pub refusing-stands : (w : List ℕ) (k : ℕ) (e : Placed SessionFault) → OpenRun (under b) H M T′ o o₁ (Err e) → k ≡ length M → w ≡ replicate (length (take k o₁)) 0 → OpenCall under key H M T o (w ++ drop k o₁) (Err e)
+    refusing-stands w k e s′ ke we =
+        let s : OpenRun (under key) H M T o o₁ (Err e) = subst (λ (i : List ℕ). OpenRun (under key) H M i o o₁ (Err e)) (tag-none .1) (subst (λ (i : List ℕ). OpenRun (under i) H M T′ o o₁ (Err e)) (key-none .1) s′) in
+        let fit : length M ≤ length o₁ = let r = room in omega arith in
+        let rest : drop (length M) o₁ ≡ drop (length M) o = past-front (16 * ((length M - 1) / 16)) (length M) o₁ o (omega arith) (s .rest) in
+        let made : Refused (under key) H M T o (w ++ drop k o₁) e = record {
+          fault = s .fault;
+          none = s .none;
+          zeros = zeroed w o₁ (length M) k ke fit we ∙ ap (λ (u : List ℕ). replicate (length M) 0 ++ u) rest;
         } in
-        subst (λ (c : Option (Placed SessionFault)). OpeningBy c (under key) H M T o o₁ (Ok (length M))) (sym checks-none) (refl, yes)
-
-    -- refused, after the front was filled with zeros: w stands there now, and k is how the code counts it
-    pub refusing-stands : (w : List ℕ) (k : ℕ) → r ≡ false → length o₁ ≡ length o → k ≡ length M → w ≡ replicate (length (take k o₁)) 0
-        → Opening under key H M T o (w ++ drop k o₁) (Err (record { fault = Forged; place = length M }))
-    refusing-stands w k e lo ke z =
-        let O = opening-law (under key) lawful H M T in
-        let fit : length M ≤ length o₁ = let room = ltb-false (length o) (length M) (pass .room) in omega arith in
-        let no : Refused (under key) H M T o (w ++ drop k o₁) (record { fault = Forged; place = length M }) = record {
-          fault = refl;
-          none = λ m p. let a = O .accepts .1 (m, p) in s .no e (record { fill = a .fill; check = a .check });
-          zeros = zeroed w o₁ (length M) k ke fit z ∙ ap (λ (u : List ℕ). replicate (length M) 0 ++ u) (s .rest);
-        } in
-        subst (λ (c : Option (Placed SessionFault)). OpeningBy c (under key) H M T o (w ++ drop k o₁) (Err (record { fault = Forged; place = length M }))) (sym checks-none) no
+        subst (λ (c : Option (Placed SessionFault)). OpeningBy c (under key) H M T o (w ++ drop k o₁) (Err e)) (sym none) made

@@ -1,5 +1,14 @@
 pub mod Bytewise
 pub mod Runs
-pub mod Crossing
-pub mod Sealing
+pub mod Starts
+pub mod Stretches
+pub mod Endings
+pub mod Finishing
+pub mod Passing
+pub mod Calling
+pub mod Straights
 pub mod Judging
+pub mod Promises
+pub mod Stepping
+pub mod Playings
+pub mod Courses

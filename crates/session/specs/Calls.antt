@@ -21,17 +21,25 @@ use Rattle.poet.specs.Seal.{Seals}
 abbrev pub keyCheck : ℕ → Option (Placed KeyFault)
 keyCheck key = cond (eqb key 16) None (Some (record { fault = Length; place = key }))
 
-abbrev pub tagCheck : ℕ → Option (Placed SessionFault)
-tagCheck tag = cond (eqb tag 16) None (Some (record { fault = Tag; place = 0 }))
+abbrev pub tagCheck : (tag place : ℕ) → Option (Placed SessionFault)
+tagCheck tag place = cond (eqb tag 16) None (Some (record { fault = Tag; place = place }))
 
--- ... in their order; `more` is the check that comes after these
-abbrev pub checks : (key header body room : ℕ) → Option (Placed SessionFault) → Option (Placed SessionFault)
-checks key header body room more =
-    cond (not (eqb key 16)) (Some (record { fault = Key Length; place = key }))
-    (cond (ltb 65536 header) (Some (record { fault = Header; place = 0 }))
+-- header, body and room, in their order; `more` is the check that comes after these
+abbrev pub bodyChecks : (header body room : ℕ) → Option (Placed SessionFault) → Option (Placed SessionFault)
+bodyChecks header body room more =
+    cond (ltb 65536 header) (Some (record { fault = Header; place = 0 }))
     (cond (ltb 1048576 body) (Some (record { fault = Body; place = 0 }))
     (cond (ltb room body) (Some (record { fault = Room; place = 0 }))
-    (cond (eqb body 0) (Some (record { fault = Empty; place = 0 })) more))))
+    (cond (eqb body 0) (Some (record { fault = Empty; place = 0 })) more)))
+
+-- the key comes first
+abbrev pub checks : (key header body room : ℕ) → Option (Placed SessionFault) → Option (Placed SessionFault)
+checks key header body room more = cond (not (eqb key 16)) (Some (record { fault = Key Length; place = key })) (bodyChecks header body room more)
+
+-- A key put into a place b, which becomes b′.
+abbrev pub FillBy : Option (Placed KeyFault) → (key b b′ : List ℕ) → Result (Unit {0}) (Placed KeyFault) → Type 0
+FillBy (Some e) key b b′ r = (r ≡ Err e) × (b′ ≡ b)
+FillBy None key b b′ r = (r ≡ Ok tt) × (b′ ≡ key)
 
 -- a refusal, or the answer x
 abbrev pub answered : {F X : Type 0} → Option (Placed F) → X → Result X (Placed F)
@@ -48,8 +56,8 @@ abbrev pub SealingBy : Option (Placed SessionFault) → (f : Functions) (H M o t
 SealingBy (Some e) f H M o t o′ t′ r = (r ≡ Err e) × (o′ ≡ o) × (t′ ≡ t)
 SealingBy None f H M o t o′ t′ r = (r ≡ Ok (length M)) × Sealed f H M o o′ t′
 
-abbrev pub Sealing : (List ℕ → Functions) → (key H M o t o′ t′ : List ℕ) → Result ℕ (Placed SessionFault) → Type 0
-Sealing under key H M o t o′ t′ r = SealingBy (checks (length key) (length H) (length M) (length o) None) (under key) H M o t o′ t′ r
+abbrev pub SealCall : (List ℕ → Functions) → (key H M o t o′ t′ : List ℕ) → Result ℕ (Placed SessionFault) → Type 0
+SealCall under key H M o t o′ t′ r = SealingBy (checks (length key) (length H) (length M) (length o) None) (under key) H M o t o′ t′ r
 
 -- Opening. It accepts exactly if some message seals to C and T under H; then that message stands in the first bytes of o′, and every
 -- message that seals so equals it. Else it leaves as many zeros as C has bytes. The rest of o is unaltered.
@@ -71,5 +79,5 @@ abbrev pub OpeningBy : Option (Placed SessionFault) → (f : Functions) (H C T o
 OpeningBy (Some e) f H C T o o′ r = (r ≡ Err e) × (o′ ≡ o)
 OpeningBy None f H C T o o′ r = Judged f H C T o o′ r
 
-abbrev pub Opening : (List ℕ → Functions) → (key H C T o o′ : List ℕ) → Result ℕ (Placed SessionFault) → Type 0
-Opening under key H C T o o′ r = OpeningBy (checks (length key) (length H) (length C) (length o) (tagCheck (length T))) (under key) H C T o o′ r
+abbrev pub OpenCall : (List ℕ → Functions) → (key H C T o o′ : List ℕ) → Result ℕ (Placed SessionFault) → Type 0
+OpenCall under key H C T o o′ r = OpeningBy (checks (length key) (length H) (length C) (length o) (tagCheck (length T) 0)) (under key) H C T o o′ r

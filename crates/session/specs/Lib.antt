@@ -1,3 +1,11 @@
+pub mod Directions
 pub mod Steps
 pub mod Engines
 pub mod Calls
+pub mod Runs
+pub mod Promise
+pub mod Sessions
+pub mod Straight
+pub mod Scripts
+pub mod Playing
+pub mod Plays

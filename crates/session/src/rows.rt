@@ -1,22 +1,28 @@
 // The rows: one code for sealing, which goes through them with E from X to Y, and for opening, which goes with D from Y to X.
-use crate::blocks::block_at;
-use poet::complete;
+use crate::blocks::joined_block;
 use poet::xor;
 use suite::ChainingHash;
 use suite::Permutation;
 ghost use mathlib.Core.Path.{_≡_};
-ghost use mathlib.Core.List.{List};
-ghost use Prim.Native.Nat.{ℕ, _*_, _≤_};
-ghost use lib.ListN.{length};
+ghost use mathlib.Core.List.{_++_};
+ghost use Prim.Native.Nat.{_+_, _*_, _≤_};
+ghost use lib.ListN.{length, take};
 ghost use Rattle.poet.specs.Bytes.{_⊕_};
-ghost use Rattle.session.specs.Steps.{Crossed, Ended, Ran, Stepped};
+ghost use Rattle.session.specs.Directions.{Direction, opening, picks, sealing, turns};
+ghost use Rattle.session.specs.Steps.{Ended, Ran, Stepped, lanes};
 
-// A way through the rows: which of the permutation's two functions a row uses.
+// A way through the rows.
 pub(crate) trait Way {
-    ghost picks: { (List ℕ → List ℕ) → (List ℕ → List ℕ) → List ℕ → List ℕ };
+    ghost way: { Direction };
 
+    // The permutation's function that a row uses.
     fn pass<P: Permutation>(p: &P, x: [u8; 16]) -> [u8; 16]
-        ensures { λ r. ⌜ r ≡ picks (P·Permutation .enc (now (p .entry))) (P·Permutation .dec (now (p .entry))) x ⌝ };
+        ensures { λ r. ⌜ r ≡ picks way (P·Permutation .enc (now (p .entry))) (P·Permutation .dec (now (p .entry))) x ⌝ };
+
+    // The lanes that begin at X_0 and Y_0.
+    fn lanes(x: [u8; 16], y: [u8; 16]) -> Lanes
+        ensures taking { λ r. ⌜ r .taking ≡ turns way (lanes x y) .x ⌝ }
+        ensures giving { λ r. ⌜ r .giving ≡ turns way (lanes x y) .y ⌝ };
 }
 
 pub(crate) struct Seal;
@@ -24,18 +30,32 @@ pub(crate) struct Seal;
 pub(crate) struct Open;
 
 pub(crate) impl Way for Seal as SealWay {
-    ghost picks = { λ e d. e };
+    ghost way = { sealing };
 
     fn pass<P: Permutation>(p: &P, x: [u8; 16]) -> [u8; 16] {
         p.encrypt(x)
     }
+
+    fn lanes(x: [u8; 16], y: [u8; 16]) -> Lanes {
+        Lanes {
+            taking: x,
+            giving: y,
+        }
+    }
 }
 
 pub(crate) impl Way for Open as OpenWay {
-    ghost picks = { λ e d. d };
+    ghost way = { opening };
 
     fn pass<P: Permutation>(p: &P, x: [u8; 16]) -> [u8; 16] {
         p.decrypt(x)
+    }
+
+    fn lanes(x: [u8; 16], y: [u8; 16]) -> Lanes {
+        Lanes {
+            taking: y,
+            giving: x,
+        }
     }
 }
 
@@ -54,7 +74,7 @@ impl Lanes {
         h: &H,
         block: [u8; 16],
     ) -> (Lanes, [u8; 16])
-        ensures { λ r. ⌜ Stepped (W·Way .picks (P·Permutation .enc (now (p .entry))) (P·Permutation .dec (now (p .entry)))) (H·ChainingHash .chain (now (h .entry))) (self .taking) (self .giving) block (r .0 .taking) (r .0 .giving) (r .1) ⌝ }
+        ensures { λ r. ⌜ Stepped (picks (W·Way .way) (P·Permutation .enc (now (p .entry))) (P·Permutation .dec (now (p .entry)))) (H·ChainingHash .chain (now (h .entry))) (self .taking) (self .giving) block (r .0 .taking) (r .0 .giving) (r .1) ⌝ }
     {
         let taking = xor(block, h.hash(self.taking));
         let giving = W::pass(p, taking);
@@ -70,7 +90,7 @@ impl Lanes {
         s: [u8; 16],
         block: [u8; 16],
     ) -> (Lanes, [u8; 16])
-        ensures { λ r. ⌜ Ended (W·Way .picks (P·Permutation .enc (now (p .entry))) (P·Permutation .dec (now (p .entry)))) (H·ChainingHash .chain (now (h .entry))) s (self .taking) (self .giving) block (r .0 .taking) (r .0 .giving) (r .1) ⌝ }
+        ensures { λ r. ⌜ Ended (picks (W·Way .way) (P·Permutation .enc (now (p .entry))) (P·Permutation .dec (now (p .entry)))) (H·ChainingHash .chain (now (h .entry))) s (self .taking) (self .giving) block (r .0 .taking) (r .0 .giving) (r .1) ⌝ }
     {
         let taking = xor(xor(block, s), h.hash(self.taking));
         let giving = W::pass(p, taking);
@@ -78,23 +98,26 @@ impl Lanes {
         (Lanes { taking, giving }, given)
     }
 
-    // n rows over the front of `input`; what they give goes to the front of `out`.
+    // n rows over the front of the bytes held and the input behind them; what they give goes to the front of `out`.
     pub(crate) fn run<W: Way, P: Permutation, H: ChainingHash>(
         self,
         p: &P,
         h: &H,
+        held: &[u8; 16],
+        len: usize,
         input: &[u8],
         out: &mut [u8],
         n: usize,
     ) -> Lanes
-        requires within { ⌜ 16 * n ≤ length (now input) ⌝ }
+        requires few { ⌜ len ≤ 16 ⌝ }
+        requires within { ⌜ 16 * n ≤ len + length (now input) ⌝ }
         requires room { ⌜ 16 * n ≤ length (now out) ⌝ }
-        ensures { λ r. ⌜ Ran (W·Way .picks (P·Permutation .enc (now (p .entry))) (P·Permutation .dec (now (p .entry)))) (H·ChainingHash .chain (now (h .entry))) (self .taking) (self .giving) (now (input .entry)) (now (out .entry)) n (r .taking) (r .giving) (now (out .exit)) ⌝ }
+        ensures { λ r. ⌜ Ran (picks (W·Way .way) (P·Permutation .enc (now (p .entry))) (P·Permutation .dec (now (p .entry)))) (H·ChainingHash .chain (now (h .entry))) (self .taking) (self .giving) (take len (now (held .entry)) ++ now (input .entry)) (now (out .entry)) n (r .taking) (r .giving) (now (out .exit)) ⌝ }
     {
         let mut lanes = self;
         for i in 0..n {
             let at = 16 * i;
-            let (next, given) = lanes.row::<W, P, H>(p, h, block_at(input, at));
+            let (next, given) = lanes.row::<W, P, H>(p, h, joined_block(held, len, input, at));
             lanes = next;
             out[at..at + 16].copy_from_slice(&given);
         }
@@ -114,29 +137,4 @@ pub(crate) fn closing<P: Permutation, H: ChainingHash>(
 {
     let inner = p.encrypt(xor(h.hash(x), tau));
     xor(xor(inner, h.hash(y)), tau)
-}
-
-// Every row over `input`, whose last block `fill` completes, with the mask `s` in the last row. As many bytes as `input` has go to the
-// front of `out`. Answers where both sequences end, and the whole last block that was given.
-pub(crate) fn cross<W: Way, P: Permutation, H: ChainingHash>(
-    p: &P,
-    h: &H,
-    from: Lanes,
-    s: [u8; 16],
-    fill: &[u8; 16],
-    input: &[u8],
-    out: &mut [u8],
-) -> (Lanes, [u8; 16])
-    requires some { ⌜ 1 ≤ length (now input) ⌝ }
-    requires room { ⌜ length (now input) ≤ length (now out) ⌝ }
-    ensures { λ r. ⌜ Crossed (W·Way .picks (P·Permutation .enc (now (p .entry))) (P·Permutation .dec (now (p .entry)))) (H·ChainingHash .chain (now (h .entry))) s (from .taking) (from .giving) (now (fill .entry)) (now (input .entry)) (now (out .entry)) (now (out .exit)) (r .0 .taking) (r .0 .giving) (r .1) ⌝ }
-{
-    let len = input.len();
-    let n = (len - 1) / 16;
-    let whole = 16 * n;
-    let before = from.run::<W, P, H>(p, h, input, out, n);
-    let block = complete(&input[whole..len], fill);
-    let (lanes, given) = before.last_row::<W, P, H>(p, h, s, block);
-    out[whole..len].copy_from_slice(&given[0..len - whole]);
-    (lanes, given)
 }

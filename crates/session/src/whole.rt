@@ -2,11 +2,14 @@
 // forged message, which leaves zeros where the message would have stood.
 use crate::checks::checked;
 use crate::checks::tag_bytes;
-use crate::engine::Engine;
+use crate::keys::KeyPlace;
+use crate::straight::open_straight;
+use crate::straight::seal_straight;
 use fault::kinds::Placed;
 use fault::kinds::SessionFault;
+use fault::kinds::SessionFromKey;
 use suite::Suite;
-ghost use Rattle.session.specs.Calls.{Opening, Sealing};
+ghost use Rattle.session.specs.Calls.{OpenCall, SealCall};
 
 // Seals `message` under `key` and `header`: the ciphertext goes to the front of `out`, and the tag to `tag`. Answers the bytes written to `out`.
 pub fn seal<S: Suite>(
@@ -16,12 +19,15 @@ pub fn seal<S: Suite>(
     out: &mut [u8],
     tag: &mut [u8; 16],
 ) -> Result<usize, Placed<SessionFault>>
-    ensures { λ r. ⌜ Sealing (S·Suite .under) (now (key .entry)) (now (header .entry)) (now (message .entry)) (now (out .entry)) (now (tag .entry)) (now (out .exit)) (now (tag .exit)) r ⌝ }
+    ensures { λ r. ⌜ SealCall (S·Suite .under) (now (key .entry)) (now (header .entry)) (now (message .entry)) (now (out .entry)) (now (tag .entry)) (now (out .exit)) (now (tag .exit)) r ⌝ }
 {
-    let key = checked(key, header, message, out.len())?;
-    let engine: Engine<S> = Engine::new(key, header);
-    engine.seal(message, out, tag);
-    Ok(message.len())
+    let mut place = KeyPlace::new();
+    place.fill(key)?;
+    checked(header, message, out.len())?;
+    let tail = seal_straight::<S>(&place, header, message, out, tag)?;
+    let len = message.len();
+    out[tail.given..len].copy_from_slice(&tail.last[0..tail.len]);
+    Ok(len)
 }
 
 // Opens `ciphertext` under `key` and `header` if `tag` is its tag: the message goes to the front of `out`. Answers the bytes written.
@@ -32,18 +38,21 @@ pub fn open<S: Suite>(
     tag: &[u8],
     out: &mut [u8],
 ) -> Result<usize, Placed<SessionFault>>
-    ensures { λ r. ⌜ Opening (S·Suite .under) (now (key .entry)) (now (header .entry)) (now (ciphertext .entry)) (now (tag .entry)) (now (out .entry)) (now (out .exit)) r ⌝ }
+    ensures { λ r. ⌜ OpenCall (S·Suite .under) (now (key .entry)) (now (header .entry)) (now (ciphertext .entry)) (now (tag .entry)) (now (out .entry)) (now (out .exit)) r ⌝ }
 {
-    let key = checked(key, header, ciphertext, out.len())?;
-    let tag = tag_bytes(tag)?;
-    let engine: Engine<S> = Engine::new(key, header);
+    let mut place = KeyPlace::new();
+    place.fill(key)?;
+    checked(header, ciphertext, out.len())?;
+    let tag = tag_bytes(tag, 0)?;
     let len = ciphertext.len();
-    if engine.open(ciphertext, &tag, out) {
-        return Ok(len);
+    match open_straight::<S>(&place, header, ciphertext, &tag, out) {
+        Ok(tail) => {
+            out[tail.given..len].copy_from_slice(&tail.last[0..tail.len]);
+            Ok(len)
+        }
+        Err(fault) => {
+            out[0..len].fill(0);
+            Err(fault)
+        }
     }
-    out[0..len].fill(0);
-    Err(Placed {
-        fault: SessionFault::Forged,
-        place: len,
-    })
 }

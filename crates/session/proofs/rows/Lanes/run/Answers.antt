@@ -9,7 +9,7 @@ loop-i-holds g c = ran-none _ _ _ _ _ _
 
 pub loop-i-again : need.loop-i-again
 loop-i-again g c =
-    ran-more _ _ _ _ _ _ _ _ _ _ (c .loop-i .inv) (c .block-at .result) _ _ _ (c .copy-from-slice .last .self) _ (c .row .ensures) (c .block-at .ensures) (c .copy-from-slice .ensures .after) (omega arith)
+    ran-more _ _ _ _ _ _ _ _ _ _ (c .loop-i .inv) (c .joined-block .result) _ _ _ (c .copy-from-slice .last .self) _ (c .row .ensures) (c .joined-block .ensures) (c .copy-from-slice .ensures .after) (omega arith)
     (ap length (c .copy-from-slice .ensures .after) ∙ (omega arith))
     (omega arith)
     (omega arith)
