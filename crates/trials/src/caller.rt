@@ -1,5 +1,5 @@
-// A caller's program: one message sealed by a session in a single stretch. The check refuses it once it adds header bytes after the start,
-// or asks a finished session for a second tag (must-fail/).
+// A caller's program: one message sealed by a session in a single stretch. The compiler refuses it once it adds header bytes after the
+// start, or asks a finished session for a second tag (docs/REFUSALS.md).
 use fault::kinds::Placed;
 use fault::kinds::SessionFault;
 use session::keys::KeyPlace;
