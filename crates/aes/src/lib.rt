@@ -1,6 +1,8 @@
 // AES-128 of FIPS 197 with ten rounds, and the same with four whole rounds, both ways.
 //
 // A function whose name ends in `_stands` does nothing: its contract is a theorem, and the crate is refused without the proof.
+#![tactic(auto)]
+
 ghost use Rattle.std.specs.Prelude.{◌≡◌, ℕ, ◌<◌, length, slice_index};
 ghost use Rattle.aes.specs.Cipher.{IsSchedule, cipher, cipher4, inv_cipher, inv_cipher4, key_at, rounds};
 ghost use Rattle.aes.specs.Expansion.{schedule};

@@ -1,4 +1,5 @@
 // Trials of AES-128: the examples of FIPS 197, and a table of vectors, both ways.
+#![tactic(auto)]
 
 #[cfg(test)]
 mod vectors;

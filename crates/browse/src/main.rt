@@ -1,6 +1,8 @@
 // Reads one delivery from standard input, plays the calls that its arguments name on a new reader over the opened sheet, and prints what each
 // answered. `next` asks for the following entry; `code`, `parent`, `count`, `landing`, `months` and `drawing` for a field of the entry last
 // answered.
+#![tactic(auto)]
+
 mod shown;
 
 use anyhow::anyhow;

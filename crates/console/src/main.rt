@@ -1,4 +1,6 @@
 // Reads one delivery from standard input, and prints its parts list or its refusal.
+#![tactic(auto)]
+
 use report::report::report;
 use std::io;
 use std::io::{Read, Write};

@@ -1,4 +1,6 @@
 // Bytes as hexadecimal text, for the programs.
+#![tactic(auto)]
+
 use std::fmt;
 
 #[derive(Clone, Copy)]

@@ -2,6 +2,8 @@
 // blocks that every layer above needs.
 //
 // A function whose name ends in `_stands` does nothing: its contract is a theorem, and the crate is refused without the proof.
+#![tactic(auto)]
+
 ghost use Rattle.poet.specs.Bytes.{◌⊕◌};
 ghost use Rattle.poet.specs.Laws.{ComputingLaw, LawfulSome, OpeningLaw, OpeningPrefix, PiecesLaw, PrefixLaw, SealingPrefix};
 ghost use Rattle.std.specs.Prelude.{◌≡◌, ◌++◌, take};

@@ -2,6 +2,8 @@
 //
 // `script` has the calls and the replies, which are copies, as the sheet stands in the caller's buffer. `play` opens a delivery and plays a
 // list of calls; its contract is the whole promise about sheets.
+#![tactic(auto)]
+
 mod calls;
 pub mod halt;
 pub mod play;

@@ -1,4 +1,6 @@
 // Plays a written session: reads one call to a line from standard input, and prints what every call answered.
+#![tactic(auto)]
+
 mod report;
 mod text;
 

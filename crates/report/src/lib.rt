@@ -2,6 +2,8 @@
 //
 // `report` parses a delivery, opens its sheet and lists it, and gives the text, the lines or the refusal; `lists` has the lines of a sheet,
 // and `halt` the ways in which there is no list.
+#![tactic(auto)]
+
 pub mod halt;
 mod lists;
 pub mod report;

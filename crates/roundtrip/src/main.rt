@@ -1,5 +1,6 @@
 // Seals one message under a label with a key, opens it again, and shows that a tag with one bit turned is refused: the whole of it under
 // each listed suite, which is told by its number.
+#![tactic(auto)]
 
 use delivery::message::{open, seal};
 use hexits::Hex;

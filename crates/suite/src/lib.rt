@@ -1,6 +1,8 @@
 // What a suite is: a permutation of the blocks, a chaining hash and a header digest under one key, with the laws that each keeps.
 //
 // Sessions are generic over `Suite`; whoever supplies one proves its laws and its meanings here once.
+#![tactic(auto)]
+
 ghost use Rattle.std.specs.Prelude.{◌≡◌, List, [], ◌++◌, ℕ};
 ghost use Rattle.poet.specs.Bytes.{Block};
 ghost use Rattle.poet.specs.Functions.{Functions, Lawful, Permutes};

@@ -1,4 +1,6 @@
 // The delivered suites, and the parts that they share.
+#![tactic(auto)]
+
 pub mod chained;
 pub mod mirror;
 pub mod numbers;
