@@ -32,7 +32,7 @@ Answered s p q (Err f) = (read_item (drop p s) ≡ fault f.fault) × (p < length
 
 -- s is the part of a sheet from a place on; b is where the sheet stands in memory, a block and an offset in it
 abbrev pub Lies : (b : ℕ × ℕ) (n : ℕ) → Bor (List ℕ) → Type 0
-Lies b n s = s.ptr ≡ (b.0, b.1 + n)
+Lies b n s = s.ref_ptr ≡ (b.0, b.1 + n)
 
 -- The codes and the drawing of an entry that stands from p to q are those very parts of the sheet.
 pub record InPlace (b : ℕ × ℕ) (p q : ℕ) (e : Entry) : Type 0 where

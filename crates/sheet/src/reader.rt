@@ -33,7 +33,7 @@ impl<'a> Reader<'a> {
         ensures answer { Answered self.old.sheet.now self.old.place self.new.place result }
         ensures follows { (es : List Item) → AllGood es → drop self.old.place self.old.sheet.now ≡ sheet_of es → Follows self.old.sheet.now self.new.place es result }
         ensures last { self.new.last ≡ last_of self.old.last result }
-        ensures lies { AnsweredInPlace self.old.sheet.ptr self.old.place self.new.place result }
+        ensures lies { AnsweredInPlace self.old.sheet.ref_ptr self.old.place self.new.place result }
         ensures same { self.new.sheet ≡ self.old.sheet }
     {
         let sheet = self.sheet;

@@ -16,11 +16,11 @@ put-requires t c = omega (arith, one_long c.args.n c.if-n-lt10.true)
 pub returns-then-n-lt10 : goal.returns-then-n-lt10
 returns-then-n-lt10 t c = let e = decimal_digit c.args.n c.if-n-lt10.true in subst (λ s. Put c.args.out.now c.put.new.out c.args.at s c.put.result) (sym e) c.put.ensures.part
 
-pub put-decimal-next-requires : goal.put-decimal-next-requires
-put-decimal-next-requires t c = let l = one_longer c.args.n c.if-n-lt10.false (omega arith) in (omega arith, omega arith)
+pub put_decimal-next-requires : goal.put_decimal-next-requires
+put_decimal-next-requires t c = let l = one_longer c.args.n c.if-n-lt10.false (omega arith) in (omega arith, omega arith)
 
 pub put-requires-2 : goal.put-requires-2
 put-requires-2 t c = let l = one_longer c.args.n c.if-n-lt10.false (omega arith) in omega arith
 
 pub returns : goal.returns
-returns t c = let e = decimal_step c.args.n c.if-n-lt10.false (omega arith) in subst (λ s. Put c.args.out.now c.put-2.new.out c.args.at s c.put-2.result) (sym e) (joins c.put-decimal-next.ensures c.put-2.ensures.part)
+returns t c = let e = decimal_step c.args.n c.if-n-lt10.false (omega arith) in subst (λ s. Put c.args.out.now c.put-2.new.out c.args.at s c.put-2.result) (sym e) (joins c.put_decimal-next.ensures c.put-2.ensures.part)

@@ -18,13 +18,13 @@ above (negsuc n) h = grind (arith, nat_tests)
 
 pub returns : goal.returns
 returns c =
-    let P : List ℕ → Type 0 = λ s. Put c.args.out.now c.put-decimal.new.out c.args.at s c.put-decimal.result in
+    let P : List ℕ → Type 0 = λ s. Put c.args.out.now c.put_decimal.new.out c.args.at s c.put_decimal.result in
     let same = ap signed_decimal (to_z-of_z w8 c.args.z c.ranges.z) in
     elim c.if-z-lt0.branch [
       | then-z-lt0 w ↦
           let dash : Put c.args.out.now c.if-z-lt0.out c.args.at (45 ∷ []) c.if-z-lt0.first = search rules in
-          subst P (ap (λ n. 45 ∷ decimal n) c.unsigned-abs.ensures.value ∙ below _ w.if-z-lt0.true ∙ same) (joins dash c.put-decimal.ensures)
+          subst P (ap (λ n. 45 ∷ decimal n) c.unsigned_abs.ensures.value ∙ below _ w.if-z-lt0.true ∙ same) (joins dash c.put_decimal.ensures)
       | else-z-lt0 w ↦
-          let plain : P (decimal c.unsigned-abs.result) = search rules in
-          subst P (ap decimal c.unsigned-abs.ensures.value ∙ above _ w.if-z-lt0.false ∙ same) plain
+          let plain : P (decimal c.unsigned_abs.result) = search rules in
+          subst P (ap decimal c.unsigned_abs.ensures.value ∙ above _ w.if-z-lt0.false ∙ same) plain
     ]

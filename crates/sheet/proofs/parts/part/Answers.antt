@@ -7,6 +7,6 @@ returns-then-sheet-at c = some_cut c.args.sheet.now c.args.at c.args.n (omega ar
 
 pub returns : goal.returns
 returns c =
-    let e : c.args.at + c.args.sheet.ptr.1 ≡ c.args.sheet.ptr.1 + c.args.at = omega arith in
+    let e : c.args.at + c.args.sheet.ref_ptr.1 ≡ c.args.sheet.ref_ptr.1 + c.args.at = omega arith in
     let h = part_got c.args.sheet.now c.args.at c.args.n _ (omega arith) (omega arith) in
-    (h.0, h.1, h.2, ap (λ (n : ℕ). (c.args.sheet.ptr.0, n)) e)
+    (h.0, h.1, h.2, ap (λ (n : ℕ). (c.args.sheet.ref_ptr.0, n)) e)

@@ -12,7 +12,7 @@ returns-in-Err c = refusal c.args.sheet.now c.loop-next.place c.loop-next.count 
 
 pub returns-then-place-sheet : goal.returns-then-place-sheet
 returns-then-place-sheet c =
-    let o : Octets c.args.sheet.now = All-from_get_or (λ b. b < 256) c.args.sheet.now 0 (λ i h. (c.type-inv.sheet i).fits) in
+    let o : Octets c.args.sheet.now = All-from_get_or (λ b. b < 256) c.args.sheet.now 0 (λ i h. (c.type_inv.sheet i).fits) in
     whole c.args.sheet.now c.loop-next.place c.in-Ok.next c.loop-next.count _ o c.loop-next.invariant c.in-Ok.ensures.told.0 c.if-place-sheet.true
 
 pub loop-next-smaller : goal.loop-next-smaller
@@ -20,5 +20,5 @@ loop-next-smaller c = omega (arith, c.in-Ok.ensures.further, c.in-Ok.ensures.tol
 
 pub loop-next-preserved : goal.loop-next-preserved
 loop-next-preserved c =
-    let o : Octets c.args.sheet.now = All-from_get_or (λ b. b < 256) c.args.sheet.now 0 (λ i h. (c.type-inv.sheet i).fits) in
+    let o : Octets c.args.sheet.now = All-from_get_or (λ b. b < 256) c.args.sheet.now 0 (λ i h. (c.type_inv.sheet i).fits) in
     on c.args.sheet.now c.loop-next.place c.in-Ok.next c.loop-next.count _ o c.loop-next.invariant c.in-Ok.ensures.told.0 (omega (arith, c.in-Ok.ensures.told.1))

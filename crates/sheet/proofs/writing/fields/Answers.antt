@@ -11,6 +11,6 @@ returns c =
     let e = item_of c.args.e in
     let small = (map_flags (is_some e.parent) (is_some e.landing) (is_some e.months) (is_some e.drawing)).small in
     record {
-      bits = ap ones c.map-of.ensures ∙ ones_16 (item_map e) small;
-      fields = ap ones c.map-of.ensures ∙ counts (is_some e.parent) (is_some e.landing) (is_some e.months) (is_some e.drawing);
+      bits = ap ones c.map_of.ensures ∙ ones_16 (item_map e) small;
+      fields = ap ones c.map_of.ensures ∙ counts (is_some e.parent) (is_some e.landing) (is_some e.months) (is_some e.drawing);
     }

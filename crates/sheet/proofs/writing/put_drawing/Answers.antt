@@ -2,8 +2,8 @@ use Rattle.std.proofs.Common.{arith, rules}
 use Rattle.sheet.proofs.Values.{drawing_short}
 use Rattle.sheet.proofs.writing.put_drawing.Goals as goal
 
-pub put-counted-requires : goal.put-counted-requires
-put-counted-requires c = (c.requires.0, drawing_short c.args.drawing c.in-Some.s c.in-Some.is c.requires.1)
+pub put_counted-requires : goal.put_counted-requires
+put_counted-requires c = (c.requires.0, drawing_short c.args.drawing c.in-Some.s c.in-Some.is c.requires.1)
 
 pub returns-in-Some : goal.returns-in-Some
 returns-in-Some c =

@@ -1,5 +1,5 @@
 use Rattle.std.proofs.Common.{◌<◌, length, arith, rules}
-use Rattle.sheet.proofs.Decoding.{ends, goes_on, breaks, further}
+use Rattle.sheet.proofs.Decoding.{ends, goes_on, breaks}
 use Rattle.sheet.proofs.reader.Reader.next.Goals as goal
 
 pub returns-then-place-sheet : goal.returns-then-place-sheet
