@@ -7,5 +7,5 @@ returns-in_err-n c g = let l = c.in_err-n.ensures in absurd (row_fits l.law _ _ 
 
 pub returns : goal.returns
 returns c g =
-    c.in_ok-extend-from-slice.ensures.items
+    c.in_ok-extend_from_slice.ensures.items
     ∙ ap (λ (x : List ℕ). vec_items c.args.text.now ++ x) (row_is _ _ _ c.in_ok-n.n _ (omega arith) c.in_ok-n.ensures.text)
