@@ -1,5 +1,5 @@
 -- The line of one entry, and the lines of a sheet.
-use Rattle.std.proofs.Common.{◌≡◌, ℕ, ◌+◌, ◌-◌, List, [], ◌∷◌, ◌++◌, length, take, drop, Some, Ok, Err, Option, Result, sym, ap, ◌∙◌, subst, ⊎_elim, append_assoc, zero-add, arith}
+use Rattle.std.proofs.Common.{◌≡◌, ℕ, List, [], ◌∷◌, ◌++◌, length, take, drop, Some, Ok, Err, Option, Result, sym, ap, ◌∙◌, subst, ⊎_elim, append_assoc, zero-add, arith}
 use Rattle.std.proofs.lemmas.List.{take_at}
 use Rattle.fault.specs.declared.kinds.SheetFault.{SheetFault}
 use Rattle.fault.specs.declared.kinds.Placed.{Placed}
