@@ -1,9 +1,7 @@
 -- The law of opening.
-use Rattle.std.proofs.Common.{◌≡◌, ℕ, List, sym}
-use Rattle.poet.specs.Functions.{Functions, Lawful}
-use Rattle.poet.specs.Seal.{Seals}
-use Rattle.poet.specs.Rows.{opened, Accepts}
-use Rattle.poet.specs.Laws.{Opens, OpeningLaw}
+use Rattle.std.proofs.Common.{sym}
+use Rattle.poet.specs.Rows.{opened}
+use Rattle.poet.specs.Laws.{OpeningLaw}
 use Rattle.poet.proofs.Opening.{accepted, sealed_accepts, opened_is}
 use Rattle.poet.proofs.Computing.{computing_law}
 

@@ -1,5 +1,5 @@
 -- The first blocks out come from the first blocks in, and tell them apart.
-use Rattle.std.proofs.Common.{◌≡◌, ℕ, zero, suc, ◌+◌, ◌-◌, ◌*◌, ◌/◌, ◌<◌, ◌≤◌, List, [], ◌++◌, length, take, drop, sym, refl, ap, ◌∙◌, append_assoc, append-nil, arith, take-append-drop, length-take-le, take_at}
+use Rattle.std.proofs.Common.{◌≡◌, ℕ, zero, suc, ◌+◌, ◌-◌, ◌*◌, ◌<◌, ◌≤◌, List, [], ◌++◌, length, take, drop, sym, ap, ◌∙◌, append_assoc, append-nil, arith, take-append-drop, length-take-le, take_at}
 use Rattle.poet.specs.Bytes.{Bytes, block}
 use Rattle.poet.specs.Rows.{State, turned, next, gives, rows, cut, whole, ends}
 use Rattle.poet.proofs.Rows.{Kept, rows_front, rows_add, rows_length}

@@ -1,10 +1,10 @@
 -- Opening undoes sealing, and sealing undoes opening.
-use Rattle.std.proofs.Common.{◌≡◌, ℕ, ◌+◌, ◌-◌, ◌*◌, ◌/◌, ◌^◌, ◌<◌, ◌≤◌, List, [], ◌++◌, length, take, drop, sym, refl, ap, ◌∙◌, arith, lit<, length-append, length-drop, take-append-drop, length-take, take_at, drop_at}
-use Rattle.poet.specs.Bytes.{Bytes, Block, ◌⊕◌}
+use Rattle.std.proofs.Common.{◌≡◌, ℕ, ◌+◌, ◌-◌, ◌*◌, ◌≤◌, List, [], length, take, refl, ap, ◌∙◌, arith, lit<, length-append, take-append-drop, length-take, take_at, drop_at}
+use Rattle.poet.specs.Bytes.{Bytes, Block}
 use Rattle.poet.specs.Functions.{Functions, Lawful}
 use Rattle.poet.specs.Seal.{Limits}
-use Rattle.poet.specs.Rows.{State, Sheet, turned, cut, whole, ends, start, size, zed, sealing, opening, cipher, tag, opened, Computed, Accepts}
-use Rattle.poet.proofs.Xors.{block_xor, bytes_nil, bytes_append, bytes_take, bytes_drop}
+use Rattle.poet.specs.Rows.{Sheet, turned, whole, ends, start, size, zed, sealing, opening, cipher, tag, opened, Computed, Accepts}
+use Rattle.poet.proofs.Xors.{block_xor, bytes_nil, bytes_append, bytes_take}
 use Rattle.poet.proofs.Rows.{Kept}
 use Rattle.poet.proofs.Turn.{Ways, turn, Facts, facts}
 

@@ -1,11 +1,11 @@
 -- The prefix laws.
-use Rattle.std.proofs.Common.{◌≡◌, ℕ, ◌+◌, ◌-◌, ◌*◌, ◌/◌, ◌<◌, ◌≤◌, ◌↔◌, List, [], length, take, sym, refl, ap, ◌∙◌, arith, take_all}
+use Rattle.std.proofs.Common.{◌≡◌, ℕ, ◌*◌, ◌<◌, ◌≤◌, List, length, take, sym, refl, ap, ◌∙◌, arith}
 use Rattle.poet.specs.Bytes.{Bytes, Block}
 use Rattle.poet.specs.Functions.{Functions, Lawful}
 use Rattle.poet.specs.Seal.{Limits, Rows, Tied, Seals}
-use Rattle.poet.specs.Rows.{State, turned, rows, whole, ends, cut, start, size, opening, opened}
-use Rattle.poet.specs.Laws.{PrefixLaw, SealingPrefix, OpeningFronts, OpeningPrefix}
-use Rattle.poet.proofs.Turn.{turn, across, rows_turn}
+use Rattle.poet.specs.Rows.{State, turned, rows, start, opening, opened}
+use Rattle.poet.specs.Laws.{PrefixLaw, SealingPrefix, OpeningPrefix}
+use Rattle.poet.proofs.Turn.{turn, rows_turn}
 use Rattle.poet.proofs.Fronts.{front_back, front_forth, front_only, cut_front}
 use Rattle.poet.proofs.Opening.{ways, start_kept, start_out, turned_kept, opened_length, opened_bytes}
 use Rattle.poet.proofs.Ties.{row, ties, tied}

@@ -1,5 +1,5 @@
 -- Rows over bytes that come in pieces.
-use Rattle.std.proofs.Common.{◌≡◌, ℕ, ◌+◌, ◌-◌, ◌*◌, ◌/◌, ◌≤◌, List, [], ◌∷◌, ◌++◌, length, drop, sym, append_assoc, append-nil, arith, length-append, length-drop, drop-drop}
+use Rattle.std.proofs.Common.{◌≡◌, ℕ, ◌+◌, ◌-◌, ◌*◌, ◌≤◌, List, [], ◌∷◌, ◌++◌, length, drop, sym, append_assoc, append-nil, arith, length-append, length-drop, drop-drop}
 use lib.Seq.{drop-append-le}
 use Rattle.poet.specs.Rows.{State, rows, whole, cut}
 use Rattle.poet.specs.Laws.{Stream, feed, feeds, flat, finish, PiecesLaw}

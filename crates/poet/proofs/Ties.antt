@@ -1,6 +1,6 @@
 -- The rows that are computed are those of the seal's equations.
 use Rattle.std.proofs.Common.{◌≡◌, ℕ, zero, suc, ◌+◌, ◌*◌, ◌<◌, ◌≤◌, List, [], ◌++◌, length, take, drop, sym, refl, ap, ◌∙◌, ap₂, append_assoc, arith, take-append-drop, take_at, take-add, drop_at}
-use Rattle.poet.specs.Bytes.{Bytes, Block, block, ◌⊕◌}
+use Rattle.poet.specs.Bytes.{Bytes, block, ◌⊕◌}
 use Rattle.poet.specs.Functions.{Functions, Lawful}
 use Rattle.poet.specs.Seal.{Rows}
 use Rattle.poet.specs.Rows.{State, takes, gives, next, rows, start}

@@ -1,9 +1,8 @@
 -- Rows run backwards.
-use Rattle.std.proofs.Common.{◌≡◌, ℕ, zero, suc, ◌+◌, ◌-◌, ◌*◌, ◌<◌, ◌≤◌, List, [], ◌∷◌, ◌++◌, length, take, drop, sym, refl, ap, ◌∙◌, append_assoc, arith, length-append, length-drop, take-append-drop, length-take, length-take-le, take_all, take_at, take-add, drop_at}
-use lib.Seq.{take-append-le, drop-append-le}
+use Rattle.std.proofs.Common.{◌≡◌, ℕ, zero, suc, ◌+◌, ◌*◌, ◌≤◌, List, [], ◌++◌, length, take, drop, refl, ◌∙◌, arith, length-append, length-drop, take-append-drop, length-take, take_all, take_at, take-add, drop_at}
 use Rattle.poet.specs.Bytes.{Bytes, Block, block, ◌⊕◌}
 use Rattle.poet.specs.Functions.{Permutes}
-use Rattle.poet.specs.Rows.{State, Sheet, takes, gives, next, rows, turned, last, cut}
+use Rattle.poet.specs.Rows.{State, takes, gives, next, rows, turned, last, cut}
 use Rattle.poet.proofs.Xors.{xor_twice, block_xor, bytes_append, bytes_take, bytes_drop}
 use Rattle.poet.proofs.Rows.{block_block, rows_front, Kept, takes_block, gives_block, rows_kept, rows_length}
 

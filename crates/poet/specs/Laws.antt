@@ -3,7 +3,7 @@ use Rattle.std.specs.Prelude.{◌≡◌, ℕ, ◌*◌, ◌<◌, ◌≤◌, ◌�
 use Rattle.poet.specs.Bytes.{Bytes, Block}
 use Rattle.poet.specs.Functions.{Functions, Lawful}
 use Rattle.poet.specs.Seal.{Limits, Tied, Seals}
-use Rattle.poet.specs.Rows.{State, Sheet, rows, whole, ends, last, cut, sheet, opened, Computed, Accepts}
+use Rattle.poet.specs.Rows.{State, Sheet, rows, whole, last, sheet, opened, Computed, Accepts}
 
 -- What is computed is the seal, and nothing else is.
 abbrev pub ComputingLaw : Type 0

@@ -1,15 +1,16 @@
 -- What the calls of a session tell once their checks are passed.
-use Rattle.std.proofs.Common.{◌≡◌, ℕ, ◌+◌, ◌≤◌, true, false, eqb, ltb, List, length, Some, None, Ok, Err, Option, Result, sym, refl, ap, ◌∙◌, subst, arith, le-ltb, ne_eqb}
+use Rattle.std.proofs.Common.{◌≡◌, ℕ, ◌+◌, ◌≤◌, false, eqb, ltb, List, length, Some, None, Ok, Err, Option, Result, refl, arith, le-ltb, ne_eqb}
 use Rattle.fault.specs.declared.kinds.KeyFault.{KeyFault}
 use Rattle.fault.specs.declared.kinds.SessionFault.{SessionFault}
 use Rattle.fault.specs.declared.kinds.Placed.{Placed}
 use Rattle.poet.specs.Functions.{Functions}
+use Rattle.suite.specs.declared.Suite as suite
 use Rattle.suite.specs.declared.Permutation as permutation
 use Rattle.suite.specs.declared.ChainingHash as hash
 use Rattle.suite.specs.declared.HeaderDigest as digest
 use Rattle.session.specs.declared.types.Heading.{Heading}
 use Rattle.session.specs.declared.types.Core.{Core}
-use Rattle.session.specs.Calls.{FillBy, tag_check}
+use Rattle.session.specs.Calls.{FillBy}
 use Rattle.session.specs.Directions.{Direction}
 use Rattle.session.specs.Runs.{Run, headed}
 use Rattle.session.specs.Sessions.{HeadingAt, header_check, HeaderBy, body_check, held, writes, BodyTaken, BodyBy, empty_check, SealFinished, SealedBy, end_check, OpenJudged, OpenedBy}
@@ -22,13 +23,13 @@ pub fill_ok : (o : Option (Placed KeyFault)) (key b b' : List ℕ) → FillBy o 
 fill_ok None key b b' f = (refl, f.1)
 fill_ok (Some e) key b b' f = absurd (ok_err f.0)
 
-pub header_ok : {A B C D : Type 0} (p : permutation.Ghosts B) (h : hash.Ghosts C) (d : digest.Ghosts D) (under : List ℕ → Functions) (R : Run) (P : List ℕ) (s s' : Heading A B C D) (r : Result (Unit {0}) (Placed SessionFault))
+pub header_ok : {A B C D : Type 0} {u : suite.Ghosts A B C D} (p : permutation.Ghosts B) (h : hash.Ghosts C) (d : digest.Ghosts D) (under : List ℕ → Functions) (R : Run) (P : List ℕ) (s s' : Heading A B C D u p h d) (r : Result (Unit {0}) (Placed SessionFault))
     → length R.header + length P ≤ 65536 → HeaderBy (header_check (length R.header) (length P)) p h d under R P s s' r → (r ≡ Ok tt) × HeadingAt p h d under (headed R P) s'
 header_ok p h d under R P s s' r l c =
     let e : ltb 65536 (length R.header + length P) ≡ false = le-ltb 65536 (length R.header + length P) l in
     rw e at c
 
-pub body_ok : {A B C D : Type 0} (p : permutation.Ghosts B) (h : hash.Ghosts C) (w : Direction) (under : List ℕ → Functions) (R : Run) (P o o' : List ℕ) (s s' : Core A B C D) (r : Result (ℕ × ℕ) (Placed SessionFault))
+pub body_ok : {A B C D : Type 0} {u : suite.Ghosts A B C D} {d : digest.Ghosts D} (p : permutation.Ghosts B) (h : hash.Ghosts C) (w : Direction) (under : List ℕ → Functions) (R : Run) (P o o' : List ℕ) (s s' : Core A B C D u p h d) (r : Result (ℕ × ℕ) (Placed SessionFault))
     → length R.body + length P ≤ 1048576 → writes (held R + length P) ≤ length o → BodyBy (body_check (length R.body) (held R) (length P) (length o)) p h w under R P o o' s s' r → BodyTaken p h w under R P o o' s' r
 body_ok p h w under R P o o' s s' r l m c =
     let e : ltb 1048576 (length R.body + length P) ≡ false = le-ltb 1048576 (length R.body + length P) l in

@@ -1,12 +1,12 @@
 -- A written session, from its body calls and its finish to the promise.
-use Rattle.std.proofs.Common.{◌≡◌, ℕ, ◌+◌, ◌-◌, ◌*◌, ◌/◌, Bool, true, false, List, [], ◌∷◌, ◌++◌, length, take, drop, replicate, IfOk, Some, None, Ok, Err, vec_items, Option, Result, sym, refl, ap, ◌∙◌, subst, ap₂, arith, Bor}
+use Rattle.std.proofs.Common.{◌≡◌, ℕ, ◌-◌, Bool, true, false, List, [], ◌∷◌, ◌++◌, length, take, drop, replicate, IfOk, Some, None, Ok, Err, vec_items, Option, Result, sym, refl, ap, ◌∙◌, subst, ap₂, Bor}
 use Rattle.std.proofs.lemmas.Result.{IfOk-weaker}
 use Rattle.std.specs.declared.alloc.AllocError.{AllocError}
 use Rattle.fault.specs.declared.kinds.SessionFault.{SessionFault}
 use Rattle.fault.specs.declared.kinds.Placed.{Placed}
 use Rattle.poet.specs.Bytes.{Block}
 use Rattle.poet.specs.Functions.{Functions, Lawful}
-use Rattle.poet.specs.Seal.{Seals}
+use Rattle.suite.specs.declared.Suite as suite
 use Rattle.suite.specs.declared.Permutation as permutation
 use Rattle.suite.specs.declared.ChainingHash as hash
 use Rattle.suite.specs.declared.HeaderDigest as digest
@@ -22,9 +22,9 @@ use Rattle.session.specs.Directions.{Direction, sealing, opening}
 use Rattle.session.specs.Runs.{Run, fresh, finished}
 use Rattle.session.specs.Promise.{Blocks}
 use Rattle.session.specs.Sessions.{HeadingAt, CoreAt, held, empty_check, end_check, SealFinished, SealedBy, OpenJudged, OpenedBy}
-use Rattle.session.specs.Scripts.{run_of, headers_taken, header_answers, body_answers, held_of}
+use Rattle.session.specs.Scripts.{run_of, headers_taken, header_answers, held_of}
 use Rattle.session.specs.Playing.{HeaderPlayed, BodyPlayed}
-use Rattle.session.specs.Plays.{AgreesWith, SealEnds, OpenVerdict, OpenEnds, SealPromise, OpenPromise, SealingPlayed, OpeningPlayed, tag_of}
+use Rattle.session.specs.Plays.{AgreesWith, SealEnds, OpenEnds, SealPromise, OpenPromise, SealingPlayed, OpeningPlayed, tag_of}
 use Rattle.session.proofs.Calling.{ok_err}
 use Rattle.session.proofs.Promises.{blocks, two_runs}
 use Rattle.session.proofs.Stepping.{held_same}
@@ -51,15 +51,15 @@ open_refused : (o : Option (Placed SessionFault)) (f : Functions) (R : Run) (T l
 open_refused None f R T l e s = (s.fault, s.none, s.zeros)
 open_refused (Some d) f R T l e s = s
 
-module _ {A B C D : Type 0} (x : permutation.Ghosts B) (y : hash.Ghosts C) (under : List ℕ → Functions) (L : (key : List ℕ) → Block key → Lawful (under key)) where
-  pub sealing_unfinished : (bs : List Stretch) (fin : Bool) (p p' : Played) (s s' : Core A B C D) → fin ≡ false → BodyPlayed x y sealing under bs p p' s s' → SealingPlayed x y under bs fin p p' Unfinished s
+module _ {A B C D : Type 0} {u : suite.Ghosts A B C D} {z : digest.Ghosts D} (x : permutation.Ghosts B) (y : hash.Ghosts C) (under : List ℕ → Functions) (L : (key : List ℕ) → Block key → Lawful (under key)) where
+  pub sealing_unfinished : (bs : List Stretch) (fin : Bool) (p p' : Played) (s s' : Core A B C D u x y z) → fin ≡ false → BodyPlayed x y sealing under bs p p' s s' → SealingPlayed x y under bs fin p p' Unfinished s
   sealing_unfinished bs fin p p' s s' fe B = subst (λ (i : Bool). SealingPlayed x y under bs i p p' Unfinished s) (sym fe) λ key a.
       let c = B.at key a in
       let l = L key c.taken.key_block in
       let b = blocks (under key) l sealing (run_of key p') c.taken c.out_is in
       record { header = B.header; body = B.body key a; blocks = b; agrees = agrees sealing (under key) l (run_of key p') b; finish = (refl, B.answers key a) }
 
-  pub sealing_accepted : (bs : List Stretch) (fin : Bool) (p p₁ p₂ : Played) (s s₁ : Core A B C D) (last tag g : List ℕ) (n j : ℕ) → fin ≡ true → BodyPlayed x y sealing under bs p p₁ s s₁
+  pub sealing_accepted : (bs : List Stretch) (fin : Bool) (p p₁ p₂ : Played) (s s₁ : Core A B C D u x y z) (last tag g : List ℕ) (n j : ℕ) → fin ≡ true → BodyPlayed x y sealing under bs p p₁ s s₁
       → ((R : Run) → CoreAt x y sealing under R s₁ → SealedBy (empty_check (length R.body)) (under R.key) R last tag (Ok n)) → p₂.header ≡ p₁.header → p₂.body ≡ p₁.body → vec_items p₂.out ≡ vec_items p₁.out ++ g → g ≡ take j last → j ≡ n
       → vec_items p₂.answers ≡ vec_items p₁.answers ++ Finish (Ok n) ∷ [] → SealingPlayed x y under bs fin p p₂ (Sealed last tag) s
   sealing_accepted bs fin p p₁ p₂ s s₁ last tag g n j fe B F he be oe ge je ae = subst (λ (i : Bool). SealingPlayed x y under bs i p p₂ (Sealed last tag) s) (sym fe) λ key a.
@@ -89,7 +89,7 @@ module _ {A B C D : Type 0} (x : permutation.Ghosts B) (y : hash.Ghosts C) (unde
         );
       }
 
-  pub sealing_refused : (bs : List Stretch) (fin : Bool) (p p₁ p₂ : Played) (s s₁ : Core A B C D) (last tag : List ℕ) (e : Placed SessionFault) → fin ≡ true → BodyPlayed x y sealing under bs p p₁ s s₁
+  pub sealing_refused : (bs : List Stretch) (fin : Bool) (p p₁ p₂ : Played) (s s₁ : Core A B C D u x y z) (last tag : List ℕ) (e : Placed SessionFault) → fin ≡ true → BodyPlayed x y sealing under bs p p₁ s s₁
       → ((R : Run) → CoreAt x y sealing under R s₁ → SealedBy (empty_check (length R.body)) (under R.key) R last tag (Err e)) → p₂.header ≡ p₁.header → p₂.body ≡ p₁.body → p₂.out ≡ p₁.out
       → vec_items p₂.answers ≡ vec_items p₁.answers ++ Finish (Err e) ∷ [] → SealingPlayed x y under bs fin p p₂ (Sealed last tag) s
   sealing_refused bs fin p p₁ p₂ s s₁ last tag e fe B F he be oe ae = subst (λ (i : Bool). SealingPlayed x y under bs i p p₂ (Sealed last tag) s) (sym fe) λ key a.
@@ -113,14 +113,14 @@ module _ {A B C D : Type 0} (x : permutation.Ghosts B) (y : hash.Ghosts C) (unde
         );
       }
 
-  pub opening_unfinished : (bs : List Stretch) (o : Option (Bor (List ℕ))) (p p' : Played) (s s' : Core A B C D) → o ≡ None → BodyPlayed x y opening under bs p p' s s' → OpeningPlayed x y under bs o p p' Unfinished s
+  pub opening_unfinished : (bs : List Stretch) (o : Option (Bor (List ℕ))) (p p' : Played) (s s' : Core A B C D u x y z) → o ≡ None → BodyPlayed x y opening under bs p p' s s' → OpeningPlayed x y under bs o p p' Unfinished s
   opening_unfinished bs o p p' s s' ne B = subst (λ (i : Option (Bor (List ℕ))). OpeningPlayed x y under bs i p p' Unfinished s) (sym ne) λ key a.
       let c = B.at key a in
       let l = L key c.taken.key_block in
       let b = blocks (under key) l opening (run_of key p') c.taken c.out_is in
       record { header = B.header; body = B.body key a; blocks = b; agrees = agrees opening (under key) l (run_of key p') b; finish = (refl, B.answers key a) }
 
-  pub opening_accepted : (bs : List Stretch) (o : Option (Bor (List ℕ))) (t : Bor (List ℕ)) (p p₁ p₂ : Played) (s s₁ : Core A B C D) (last g : List ℕ) (n j : ℕ) → o ≡ Some t → BodyPlayed x y opening under bs p p₁ s s₁
+  pub opening_accepted : (bs : List Stretch) (o : Option (Bor (List ℕ))) (t : Bor (List ℕ)) (p p₁ p₂ : Played) (s s₁ : Core A B C D u x y z) (last g : List ℕ) (n j : ℕ) → o ≡ Some t → BodyPlayed x y opening under bs p p₁ s s₁
       → ((R : Run) → CoreAt x y opening under R s₁ → OpenedBy (end_check (length R.body) (length t.now)) (under R.key) R t.now last (Ok n)) → p₂.header ≡ p₁.header → p₂.body ≡ p₁.body → vec_items p₂.out ≡ vec_items p₁.out ++ g
       → g ≡ take j last → j ≡ n → vec_items p₂.answers ≡ vec_items p₁.answers ++ Finish (Ok n) ∷ [] → OpeningPlayed x y under bs o p p₂ (Opened last) s
   opening_accepted bs o t p p₁ p₂ s s₁ last g n j te B F he be oe ge je ae = subst (λ (i : Option (Bor (List ℕ))). OpeningPlayed x y under bs i p p₂ (Opened last) s) (sym te) λ key a.
@@ -149,7 +149,7 @@ module _ {A B C D : Type 0} (x : permutation.Ghosts B) (y : hash.Ghosts C) (unde
         );
       }
 
-  pub opening_refused : (bs : List Stretch) (o : Option (Bor (List ℕ))) (t : Bor (List ℕ)) (p p₁ p₂ : Played) (s s₁ : Core A B C D) (last : List ℕ) (e : Placed SessionFault) → o ≡ Some t → BodyPlayed x y opening under bs p p₁ s s₁
+  pub opening_refused : (bs : List Stretch) (o : Option (Bor (List ℕ))) (t : Bor (List ℕ)) (p p₁ p₂ : Played) (s s₁ : Core A B C D u x y z) (last : List ℕ) (e : Placed SessionFault) → o ≡ Some t → BodyPlayed x y opening under bs p p₁ s s₁
       → ((R : Run) → CoreAt x y opening under R s₁ → OpenedBy (end_check (length R.body) (length t.now)) (under R.key) R t.now last (Err e)) → p₂.header ≡ p₁.header → p₂.body ≡ p₁.body → p₂.out ≡ p₁.out
       → vec_items p₂.answers ≡ vec_items p₁.answers ++ Finish (Err e) ∷ [] → OpeningPlayed x y under bs o p p₂ (Opened last) s
   opening_refused bs o t p p₁ p₂ s s₁ last e te B F he be oe ae = subst (λ (i : Option (Bor (List ℕ))). OpeningPlayed x y under bs i p p₂ (Opened last) s) (sym te) λ key a.
@@ -173,7 +173,7 @@ module _ {A B C D : Type 0} (x : permutation.Ghosts B) (y : hash.Ghosts C) (unde
       }
 
 -- from new on: p is the empty log, and s the new heading
-module _ {A B C D : Type 0} (x : permutation.Ghosts B) (y : hash.Ghosts C) (z : digest.Ghosts D) (under : List ℕ → Functions) (key : List ℕ) (hs : List Stretch) (p p₁ : Played) (s s₁ : Heading A B C D)
+module _ {A B C D : Type 0} {u : suite.Ghosts A B C D} (x : permutation.Ghosts B) (y : hash.Ghosts C) (z : digest.Ghosts D) (under : List ℕ → Functions) (key : List ℕ) (hs : List Stretch) (p p₁ : Played) (s s₁ : Heading A B C D u x y z)
     (none : (vec_items p.header ≡ []) × (vec_items p.body ≡ []) × (vec_items p.out ≡ []) × (vec_items p.answers ≡ [])) (new : HeadingAt x y z under (fresh key) s) (played : HeaderPlayed x y z under hs p p₁ s s₁) where
   begun : HeadingAt x y z under (run_of key p) s
   begun = let h = none.0 in let b = none.1 in let o = none.2 in let run : fresh key ≡ run_of key p = cc in subst (λ (R : Run). HeadingAt x y z under R s) run new
@@ -187,12 +187,12 @@ module _ {A B C D : Type 0} (x : permutation.Ghosts B) (y : hash.Ghosts C) (z : 
   answers_are : vec_items p₁.answers ≡ header_answers [] hs
   answers_are = played.answers key begun ∙ ap₂ (λ before H. before ++ header_answers H hs) none.3 none.0
 
-  pub sealing_course : (bs : List Stretch) (fin : Bool) (c : Core A B C D) → ((R : Run) → HeadingAt x y z under R s₁ → CoreAt x y sealing under R c) → (r : Result (Played × End) AllocError)
+  pub sealing_course : (bs : List Stretch) (fin : Bool) (c : Core A B C D u x y z) → ((R : Run) → HeadingAt x y z under R s₁ → CoreAt x y sealing under R c) → (r : Result (Played × End) AllocError)
       → IfOk r (λ q. SealingPlayed x y under bs fin p₁ q.0 q.1 c) → IfOk r (λ q. SealPromise under key (headers_taken [] hs) [] (header_answers [] hs) bs fin q.0 q.1)
   sealing_course bs fin c start r m =
       IfOk-weaker r _ _ (λ q a. subst (λ (H : List ℕ). SealPromise under key H [] (header_answers [] hs) bs fin q.0 q.1) headers_are (subst (λ (M : List ℕ). SealPromise under key (vec_items p₁.header) M (header_answers [] hs) bs fin q.0 q.1) headed_at.no_body (subst (λ (before : List Answer). SealPromise under key (vec_items p₁.header) (vec_items p₁.body) before bs fin q.0 q.1) answers_are (a key (start (run_of key p₁) headed_at))))) m
 
-  pub opening_course : (bs : List Stretch) (tag : Option (Bor (List ℕ))) (c : Core A B C D) → ((R : Run) → HeadingAt x y z under R s₁ → CoreAt x y opening under R c) → (r : Result (Played × End) AllocError)
+  pub opening_course : (bs : List Stretch) (tag : Option (Bor (List ℕ))) (c : Core A B C D u x y z) → ((R : Run) → HeadingAt x y z under R s₁ → CoreAt x y opening under R c) → (r : Result (Played × End) AllocError)
       → IfOk r (λ q. OpeningPlayed x y under bs tag p₁ q.0 q.1 c) → IfOk r (λ q. OpenPromise under key (headers_taken [] hs) [] (header_answers [] hs) bs (tag_of tag) q.0 q.1)
   opening_course bs tag c start r m =
       IfOk-weaker r _ _ (λ q a. subst (λ (H : List ℕ). OpenPromise under key H [] (header_answers [] hs) bs (tag_of tag) q.0 q.1) headers_are (subst (λ (M : List ℕ). OpenPromise under key (vec_items p₁.header) M (header_answers [] hs) bs (tag_of tag) q.0 q.1) headed_at.no_body (subst (λ (before : List Answer). OpenPromise under key (vec_items p₁.header) (vec_items p₁.body) before bs (tag_of tag) q.0 q.1) answers_are (a key (start (run_of key p₁) headed_at))))) m

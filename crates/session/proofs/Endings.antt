@@ -1,14 +1,11 @@
 -- The last row of a session, from what the calls of the code give to what the mode computes.
-use Rattle.std.proofs.Common.{◌≡◌, ℕ, ◌+◌, ◌-◌, ◌*◌, ◌/◌, ◌≤◌, Bool, true, false, ◌&&◌, List, ◌++◌, length, take, drop, replicate, sym, refl, ap, ◌∙◌, ap₂, inl, inr, arith, length-drop, take-append-drop, length-take}
+use Rattle.std.proofs.Common.{◌≡◌, ℕ, ◌-◌, ◌*◌, ◌≤◌, Bool, true, false, ◌&&◌, List, ◌++◌, length, take, drop, replicate, sym, ap, ◌∙◌, ap₂, inl, inr, arith, length-drop, take-append-drop, length-take}
 use Rattle.std.proofs.lemmas.List.{take_at, drop_at, take_rest, take-replicate}
 use Rattle.std.proofs.lemmas.Bool.{and_parts, and_cases}
-use Rattle.poet.specs.Bytes.{Block, ◌⊕◌}
-use Rattle.poet.specs.Functions.{Functions, Lawful}
-use Rattle.poet.specs.Seal.{Limits, Seals}
-use Rattle.poet.specs.Rows.{State, Sheet, rows, last, cut, whole, ends, sheet, start, turned, size, zed, sealing, cipher, tag, opening, opened, Accepts}
+use Rattle.poet.specs.Bytes.{◌⊕◌}
+use Rattle.poet.specs.Functions.{Functions}
+use Rattle.poet.specs.Rows.{State, Sheet, rows, last, cut, whole, ends, sheet, start, turned, size, zed, sealing, cipher, tag, opening}
 use Rattle.poet.proofs.Completing.{completes}
-use Rattle.poet.proofs.Computing.{computing_law}
-use Rattle.poet.proofs.Accepting.{opening_law}
 use Rattle.session.specs.Steps.{lanes, Ended, Tested}
 
 -- the last row looks at x and y only

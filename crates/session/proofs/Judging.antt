@@ -1,5 +1,5 @@
 -- The calls for whole buffers: from their checks and the session that they run to what their contracts say.
-use Rattle.std.proofs.Common.{◌≡◌, ℕ, ◌+◌, ◌-◌, ◌*◌, ◌/◌, ◌≤◌, true, eqb, List, ◌++◌, length, take, drop, replicate, Some, None, Ok, Err, Option, Result, sym, refl, ap, ◌∙◌, subst, arith, length-take, ltb-false}
+use Rattle.std.proofs.Common.{◌≡◌, ℕ, ◌+◌, ◌-◌, ◌*◌, ◌/◌, ◌≤◌, true, eqb, List, ◌++◌, length, take, drop, replicate, None, Ok, Err, Option, Result, sym, refl, ap, ◌∙◌, subst, arith, length-take, ltb-false}
 use borrow.Rule.Slice.PartMut.{put_mid}
 use Rattle.std.proofs.lemmas.List.{drop-drop}
 use Rattle.std.proofs.lemmas.Slice.{take-put_mid, drop-put_mid}
@@ -8,7 +8,7 @@ use Rattle.fault.specs.declared.kinds.Placed.{Placed}
 use Rattle.poet.specs.Functions.{Functions}
 use Rattle.poet.specs.Seal.{Seals}
 use Rattle.session.specs.declared.straight.Tail.{Tail}
-use Rattle.session.specs.Calls.{answered, body_checks, checks, key_check, tag_check, FillBy, Sealed, SealingBy, SealCall, Opened, Refused, Judged, OpeningBy, OpenCall}
+use Rattle.session.specs.Calls.{answered, body_checks, checks, key_check, tag_check, FillBy, Sealed, SealingBy, SealCall, Opened, Refused, OpeningBy, OpenCall}
 use Rattle.session.specs.Straight.{Cut, handed, SealRun, OpenRun}
 use Rattle.session.proofs.Bytewise.{zeroed}
 use Rattle.session.proofs.Calling.{fill_ok}

@@ -1,10 +1,10 @@
 -- Every run of a session hands out the blocks of the rows.
-use Rattle.std.proofs.Common.{◌≡◌, ℕ, ◌+◌, ◌-◌, ◌*◌, ◌/◌, ◌<◌, ◌≤◌, List, [], ◌++◌, length, take, drop, sym, refl, ap, ◌∙◌, subst, arith, take_all, take_at}
-use Rattle.poet.specs.Bytes.{Bytes, Block}
+use Rattle.std.proofs.Common.{◌≡◌, ℕ, ◌*◌, ◌≤◌, List, length, take, sym, refl, ap, ◌∙◌, subst, arith, take_at}
+use Rattle.poet.specs.Bytes.{Bytes}
 use Rattle.poet.specs.Functions.{Functions, Lawful}
 use Rattle.poet.specs.Seal.{Tied, Seals}
 use Rattle.poet.specs.Rows.{State, turned, rows, whole, start}
-use Rattle.poet.proofs.Rows.{Kept, rows_kept}
+use Rattle.poet.proofs.Rows.{rows_kept}
 use Rattle.poet.proofs.Turn.{turn, rows_turn}
 use Rattle.poet.proofs.Fronts.{rows_begin, front_length, front_only}
 use Rattle.poet.proofs.Opening.{ways, start_kept, start_out, turned_kept, cipher_length, sealed_accepts}

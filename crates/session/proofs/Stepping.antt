@@ -1,14 +1,14 @@
 -- One call of a written session.
-use Rattle.std.proofs.Common.{◌≡◌, ℕ, ◌+◌, ◌-◌, ◌*◌, ◌/◌, List, [], ◌∷◌, ◌++◌, length, take, Some, None, Ok, Err, vec_items, Option, Result, sym, refl, ap, ◌∙◌, subst, ap₂, arith}
+use Rattle.std.proofs.Common.{◌≡◌, ℕ, ◌+◌, ◌-◌, List, [], ◌∷◌, ◌++◌, length, take, Some, None, Ok, Err, vec_items, Option, sym, refl, ap, ◌∙◌, subst, arith}
 use Rattle.fault.specs.declared.kinds.SessionFault.{SessionFault}
 use Rattle.fault.specs.declared.kinds.Placed.{Placed}
 use Rattle.poet.specs.Bytes.{Block}
 use Rattle.poet.specs.Functions.{Functions, Lawful}
+use Rattle.suite.specs.declared.Suite as suite
 use Rattle.suite.specs.declared.Permutation as permutation
 use Rattle.suite.specs.declared.ChainingHash as hash
 use Rattle.suite.specs.declared.HeaderDigest as digest
 use Rattle.session.specs.declared.logs.Played.{Played}
-use Rattle.session.specs.declared.script.Answer.{Answer}
 use Rattle.session.specs.declared.script.Answer.TheVariants.{Header, Body}
 use Rattle.session.specs.declared.script.Stretch.{Stretch}
 use Rattle.session.specs.declared.types.Heading.{Heading}
@@ -17,23 +17,23 @@ use Rattle.session.specs.Calls.{answered}
 use Rattle.session.specs.Directions.{Direction}
 use Rattle.session.specs.Runs.{Run, headed, bodied}
 use Rattle.session.specs.Sessions.{HeadingAt, HeaderBy, header_check, CoreAt, BodyBy, BodyTaken, body_check, held, writes}
-use Rattle.session.specs.Scripts.{run_of, taken, headers_taken, header_answers, held_of, body_check_of, bodies_taken, body_answers}
+use Rattle.session.specs.Scripts.{run_of, taken, held_of, body_check_of}
 use Rattle.session.specs.Playing.{HeaderPlayed, BodyPlayed}
 use Rattle.session.proofs.Calling.{ok_err}
 use Rattle.session.proofs.Stretches.{out_length}
 use Rattle.session.proofs.Straights.{pair_first}
 
-module _ {A B C D : Type 0} (x : permutation.Ghosts B) (y : hash.Ghosts C) (z : digest.Ghosts D) (under : List ℕ → Functions) where
-  heeded : (o : Option (Placed SessionFault)) (R : Run) (P : List ℕ) (s s' : Heading A B C D) → HeaderBy o x y z under R P s s' (Ok tt) → (o ≡ None) × HeadingAt x y z under (headed R P) s'
+module _ {A B C D : Type 0} {u : suite.Ghosts A B C D} (x : permutation.Ghosts B) (y : hash.Ghosts C) (z : digest.Ghosts D) (under : List ℕ → Functions) where
+  heeded : (o : Option (Placed SessionFault)) (R : Run) (P : List ℕ) (s s' : Heading A B C D u x y z) → HeaderBy o x y z under R P s s' (Ok tt) → (o ≡ None) × HeadingAt x y z under (headed R P) s'
   heeded None R P s s' h = (refl, h.1)
   heeded (Some e) R P s s' h = absurd (ok_err h.0)
 
-  refused : (o : Option (Placed SessionFault)) (R : Run) (P : List ℕ) (s s' : Heading A B C D) (e : Placed SessionFault) → HeaderBy o x y z under R P s s' (Err e) → (o ≡ Some e) × (s' ≡ s)
+  refused : (o : Option (Placed SessionFault)) (R : Run) (P : List ℕ) (s s' : Heading A B C D u x y z) (e : Placed SessionFault) → HeaderBy o x y z under R P s s' (Err e) → (o ≡ Some e) × (s' ≡ s)
   refused None R P s s' e h = absurd (ok_err (sym h.0))
   refused (Some f) R P s s' e h = (cc h.0, h.1)
 
   -- a header call that was heeded, and one that was refused
-  pub header_heeded : (t : Stretch) (p p' : Played) (s s' : Heading A B C D) → p'.body ≡ p.body → p'.out ≡ p.out
+  pub header_heeded : (t : Stretch) (p p' : Played) (s s' : Heading A B C D u x y z) → p'.body ≡ p.body → p'.out ≡ p.out
       → ((key : List ℕ) → HeadingAt x y z under (run_of key p) s → HeaderBy (header_check (length (vec_items p.header)) (length t.bytes.now)) x y z under (run_of key p) t.bytes.now s s' (Ok tt))
       → vec_items p'.header ≡ vec_items p.header ++ t.bytes.now → vec_items p'.answers ≡ vec_items p.answers ++ Header (Ok tt) ∷ [] → HeaderPlayed x y z under (t ∷ []) p p' s s'
   header_heeded t p p' s s' be oe h he ae =
@@ -46,7 +46,7 @@ module _ {A B C D : Type 0} (x : permutation.Ghosts B) (y : hash.Ghosts C) (z : 
         answers = λ key a. ae ∙ ap (λ o. vec_items p.answers ++ Header (answered o tt) ∷ []) (sym (heeded c (run_of key p) t.bytes.now s s' (h key a)).0);
       }
 
-  pub header_refused : (t : Stretch) (p p' : Played) (s s' : Heading A B C D) (e : Placed SessionFault) → p'.header ≡ p.header → p'.body ≡ p.body → p'.out ≡ p.out
+  pub header_refused : (t : Stretch) (p p' : Played) (s s' : Heading A B C D u x y z) (e : Placed SessionFault) → p'.header ≡ p.header → p'.body ≡ p.body → p'.out ≡ p.out
       → ((key : List ℕ) → HeadingAt x y z under (run_of key p) s → HeaderBy (header_check (length (vec_items p.header)) (length t.bytes.now)) x y z under (run_of key p) t.bytes.now s s' (Err e))
       → vec_items p'.answers ≡ vec_items p.answers ++ Header (Err e) ∷ [] → HeaderPlayed x y z under (t ∷ []) p p' s s'
   header_refused t p p' s s' e he be oe h ae =
@@ -59,20 +59,20 @@ module _ {A B C D : Type 0} (x : permutation.Ghosts B) (y : hash.Ghosts C) (z : 
         answers = λ key a. ae ∙ ap (λ o. vec_items p.answers ++ Header (answered o tt) ∷ []) (sym (refused c (run_of key p) t.bytes.now s s' e (h key a)).0);
       }
 
-module _ {A B C D : Type 0} (x : permutation.Ghosts B) (y : hash.Ghosts C) (w : Direction) (under : List ℕ → Functions) (L : (key : List ℕ) → Block key → Lawful (under key)) where
+module _ {A B C D : Type 0} {u : suite.Ghosts A B C D} {z : digest.Ghosts D} (x : permutation.Ghosts B) (y : hash.Ghosts C) (w : Direction) (under : List ℕ → Functions) (L : (key : List ℕ) → Block key → Lawful (under key)) where
   -- the bytes held back, by the rule and by the run
-  pub held_same : (R : Run) (s : Core A B C D) → CoreAt x y w under R s → held R ≡ held_of (length R.body)
+  pub held_same : (R : Run) (s : Core A B C D u x y z) → CoreAt x y w under R s → held R ≡ held_of (length R.body)
   held_same R s a = let o = out_length (under R.key) (L R.key a.taken.key_block) w R a.taken.header_bytes a.taken.body_bytes a.out_is in omega arith
 
-  body_heeds : (o : Option (Placed SessionFault)) (R : Run) (P b b' : List ℕ) (s s' : Core A B C D) (r : ℕ × ℕ) → BodyBy o x y w under R P b b' s s' (Ok r) → (o ≡ None) × BodyTaken x y w under R P b b' s' (Ok r)
+  body_heeds : (o : Option (Placed SessionFault)) (R : Run) (P b b' : List ℕ) (s s' : Core A B C D u x y z) (r : ℕ × ℕ) → BodyBy o x y w under R P b b' s s' (Ok r) → (o ≡ None) × BodyTaken x y w under R P b b' s' (Ok r)
   body_heeds None R P b b' s s' r h = (refl, h)
   body_heeds (Some e) R P b b' s s' r h = absurd (ok_err h.0)
 
-  body_refuses : (o : Option (Placed SessionFault)) (R : Run) (P b b' : List ℕ) (s s' : Core A B C D) (e : Placed SessionFault) → BodyBy o x y w under R P b b' s s' (Err e) → (o ≡ Some e) × (s' ≡ s)
+  body_refuses : (o : Option (Placed SessionFault)) (R : Run) (P b b' : List ℕ) (s s' : Core A B C D u x y z) (e : Placed SessionFault) → BodyBy o x y w under R P b b' s s' (Err e) → (o ≡ Some e) × (s' ≡ s)
   body_refuses None R P b b' s s' e h = absurd (ok_err (sym h.answer))
   body_refuses (Some f) R P b b' s s' e h = (cc h.0, h.1)
 
-  module _ (t : Stretch) (p p' : Played) (s s' : Core A B C D) (b b' : List ℕ) (room : length b ≡ t.room) where
+  module _ (t : Stretch) (p p' : Played) (s s' : Core A B C D u x y z) (b b' : List ℕ) (room : length b ≡ t.room) where
     P : List ℕ
     P = t.bytes.now
 

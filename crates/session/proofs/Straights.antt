@@ -1,12 +1,11 @@
 -- One session over whole buffers, from what its calls tell.
-use Rattle.std.proofs.Common.{◌≡◌, ℕ, ◌+◌, ◌-◌, ◌*◌, ◌/◌, ◌≤◌, List, [], ◌++◌, length, take, drop, Ok, Err, Result, sym, refl, ap, ◌∙◌, subst, ap₂, arith, length-take}
+use Rattle.std.proofs.Common.{◌≡◌, ℕ, ◌+◌, ◌-◌, ◌*◌, ◌/◌, ◌≤◌, List, ◌++◌, length, take, drop, Ok, Err, Result, sym, ap, ◌∙◌, subst, ap₂, arith, length-take}
 use Rattle.fault.specs.declared.kinds.SessionFault.{SessionFault}
 use Rattle.fault.specs.declared.kinds.Placed.{Placed}
 use Rattle.poet.specs.Functions.{Functions}
 use Rattle.poet.specs.Seal.{Seals}
-use Rattle.session.specs.declared.straight.Tail.{Tail}
 use Rattle.session.specs.Runs.{Run, fresh, headed, bodied}
-use Rattle.session.specs.Sessions.{held, writes, SealFinished, OpenFinished, OpenRefused, OpenJudged}
+use Rattle.session.specs.Sessions.{held, writes, SealFinished, OpenJudged}
 use Rattle.session.specs.Straight.{Cut, handed, SealRun, OpenRun}
 
 -- the run of a session that took the header H and the body a, and gave the front of o'

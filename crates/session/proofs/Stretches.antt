@@ -1,9 +1,9 @@
 -- A body call: from where the rows stood, what it brings and what it writes, to where they stand.
-use Rattle.std.proofs.Common.{◌≡◌, ℕ, zero, suc, ◌+◌, ◌-◌, ◌*◌, ◌/◌, ◌≤◌, List, [], ◌++◌, length, take, drop, Ok, Result, sym, refl, ap, ◌∙◌, subst, ap₂, subst₂, append_assoc, append-nil, arith, length-append, length-drop, take_all, drop-drop}
+use Rattle.std.proofs.Common.{◌≡◌, ℕ, zero, suc, ◌+◌, ◌*◌, ◌≤◌, List, [], ◌++◌, length, take, drop, Ok, Result, sym, refl, ap, ◌∙◌, ap₂, append_assoc, append-nil, arith, length-drop, take_all, drop-drop}
 use lib.Seq.{drop-append-le}
-use Rattle.poet.specs.Bytes.{Bytes, Block, block}
+use Rattle.poet.specs.Bytes.{Bytes, block}
 use Rattle.poet.specs.Functions.{Functions, Lawful}
-use Rattle.poet.specs.Rows.{State, takes, gives, next, rows, whole, start, turned}
+use Rattle.poet.specs.Rows.{State, takes, gives, next, rows, whole, start}
 use Rattle.poet.proofs.Rows.{Kept, rows_front, rows_add, rows_length}
 use Rattle.poet.proofs.Turn.{Ways, turn}
 use Rattle.poet.proofs.Opening.{ways, start_kept, start_out, turned_kept}

@@ -6,8 +6,10 @@ use Rattle.fault.specs.declared.kinds.SessionFault.TheVariants.{Forged}
 use Rattle.fault.specs.declared.kinds.Placed.{Placed}
 use Rattle.poet.specs.Functions.{Functions}
 use Rattle.poet.specs.Seal.{Seals}
+use Rattle.suite.specs.declared.Suite as suite
 use Rattle.suite.specs.declared.Permutation as permutation
 use Rattle.suite.specs.declared.ChainingHash as hash
+use Rattle.suite.specs.declared.HeaderDigest as digest
 use Rattle.session.specs.declared.logs.Played.{Played}
 use Rattle.session.specs.declared.script.Answer.{Answer}
 use Rattle.session.specs.declared.script.Answer.TheVariants.{Finish}
@@ -83,8 +85,8 @@ CoursePlayed (Seal bodies fin) under key hs p e = SealPromise under key (headers
 CoursePlayed (Open bodies tag) under key hs p e = OpenPromise under key (headers_taken [] hs) [] (header_answers [] hs) bodies.now (tag_of tag) p e
 
 -- the same from where a session stood when its body calls began
-abbrev pub SealingPlayed : {A B C D : Type 0} → permutation.Ghosts B → hash.Ghosts C → (List ℕ → Functions) → List Stretch → Bool → (p p' : Played) → End → Core A B C D → Type 0
+abbrev pub SealingPlayed : {A B C D : Type 0} {u : suite.Ghosts A B C D} {z : digest.Ghosts D} → (x : permutation.Ghosts B) → (y : hash.Ghosts C) → (List ℕ → Functions) → List Stretch → Bool → (p p' : Played) → End → Core A B C D u x y z → Type 0
 SealingPlayed x y under bs fin p p' e s = (key : List ℕ) → CoreAt x y sealing under (run_of key p) s → SealPromise under key (vec_items p.header) (vec_items p.body) (vec_items p.answers) bs fin p' e
 
-abbrev pub OpeningPlayed : {A B C D : Type 0} → permutation.Ghosts B → hash.Ghosts C → (List ℕ → Functions) → List Stretch → Option (Bor (List ℕ)) → (p p' : Played) → End → Core A B C D → Type 0
+abbrev pub OpeningPlayed : {A B C D : Type 0} {u : suite.Ghosts A B C D} {z : digest.Ghosts D} → (x : permutation.Ghosts B) → (y : hash.Ghosts C) → (List ℕ → Functions) → List Stretch → Option (Bor (List ℕ)) → (p p' : Played) → End → Core A B C D u x y z → Type 0
 OpeningPlayed x y under bs tag p p' e s = (key : List ℕ) → CoreAt x y opening under (run_of key p) s → OpenPromise under key (vec_items p.header) (vec_items p.body) (vec_items p.answers) bs (tag_of tag) p' e

@@ -7,6 +7,7 @@ use Rattle.poet.specs.Bytes.{Bytes, Block}
 use Rattle.poet.specs.Functions.{Functions}
 use Rattle.poet.specs.Seal.{Seals}
 use Rattle.poet.specs.Rows.{State, rows, whole, start}
+use Rattle.suite.specs.declared.Suite as suite
 use Rattle.suite.specs.declared.Permutation as permutation
 use Rattle.suite.specs.declared.ChainingHash as hash
 use Rattle.suite.specs.declared.HeaderDigest as digest
@@ -26,7 +27,7 @@ pub record Taken (R : Run) : Type 0 where
   pub body_bytes : Bytes R.body
 
 -- the heading s stands at the run R
-pub record HeadingAt {A B C D : Type 0} (p : permutation.Ghosts B) (h : hash.Ghosts C) (d : digest.Ghosts D) (under : List ℕ → Functions) (R : Run) (s : Heading A B C D) : Type 0 where
+pub record HeadingAt {A B C D : Type 0} {u : suite.Ghosts A B C D} (p : permutation.Ghosts B) (h : hash.Ghosts C) (d : digest.Ghosts D) (under : List ℕ → Functions) (R : Run) (s : Heading A B C D u p h d) : Type 0 where
   pub taken : Taken R
   pub no_body : R.body ≡ []
   pub no_out : R.out ≡ []
@@ -41,7 +42,7 @@ abbrev pub rows_of : (w : Direction) (f : Functions) → Run → State
 rows_of w f R = rows (picks w f.enc f.dec) f.chain (whole R.body) (turns w (start f R.header)) R.body
 
 -- the core s of a sealing or an opening stands at the run R
-pub record CoreAt {A B C D : Type 0} (p : permutation.Ghosts B) (h : hash.Ghosts C) (w : Direction) (under : List ℕ → Functions) (R : Run) (s : Core A B C D) : Type 0 where
+pub record CoreAt {A B C D : Type 0} {u : suite.Ghosts A B C D} {d : digest.Ghosts D} (p : permutation.Ghosts B) (h : hash.Ghosts C) (w : Direction) (under : List ℕ → Functions) (R : Run) (s : Core A B C D u p h d) : Type 0 where
   pub taken : Taken R
   pub engine : EngineAt p h (under R.key) R.header s.engine
   pub x_is : s.lanes.taking ≡ (rows_of w (under R.key) R).x
@@ -54,7 +55,7 @@ pub record CoreAt {A B C D : Type 0} (p : permutation.Ghosts B) (h : hash.Ghosts
 abbrev pub header_check : (taken more : ℕ) → Option (Placed SessionFault)
 header_check taken more = cond (nat_lt 65536 (taken + more)) (Some (record { fault = Header; place = taken })) None
 
-abbrev pub HeaderBy : {A B C D : Type 0} → Option (Placed SessionFault) → permutation.Ghosts B → hash.Ghosts C → digest.Ghosts D → (List ℕ → Functions) → Run → List ℕ → (s s' : Heading A B C D) → Result (Unit {0}) (Placed SessionFault) → Type 0
+abbrev pub HeaderBy : {A B C D : Type 0} {u : suite.Ghosts A B C D} → Option (Placed SessionFault) → (p : permutation.Ghosts B) → (h : hash.Ghosts C) → (d : digest.Ghosts D) → (List ℕ → Functions) → Run → List ℕ → (s s' : Heading A B C D u p h d) → Result (Unit {0}) (Placed SessionFault) → Type 0
 HeaderBy (Some e) p h d under R P s s' r = (r ≡ Err e) × (s' ≡ s)
 HeaderBy None p h d under R P s s' r = (r ≡ Ok tt) × HeadingAt p h d under (headed R P) s'
 
@@ -71,13 +72,13 @@ body_check taken held more room =
 abbrev pub held : Run → ℕ
 held R = length R.body - length R.out
 
-pub record BodyTaken {A B C D : Type 0} (p : permutation.Ghosts B) (h : hash.Ghosts C) (w : Direction) (under : List ℕ → Functions) (R : Run) (P o o' : List ℕ) (s' : Core A B C D) (r : Result (ℕ × ℕ) (Placed SessionFault)) : Type 0 where
+pub record BodyTaken {A B C D : Type 0} {u : suite.Ghosts A B C D} {d : digest.Ghosts D} (p : permutation.Ghosts B) (h : hash.Ghosts C) (w : Direction) (under : List ℕ → Functions) (R : Run) (P o o' : List ℕ) (s' : Core A B C D u p h d) (r : Result (ℕ × ℕ) (Placed SessionFault)) : Type 0 where
   pub answer : r ≡ Ok (writes (held R + length P), held R + length P - writes (held R + length P))
   pub rest : drop (writes (held R + length P)) o' ≡ drop (writes (held R + length P)) o
   pub at : CoreAt p h w under (bodied R P (take (writes (held R + length P)) o')) s'
   pub blocks : Blocks w (under R.key) (bodied R P (take (writes (held R + length P)) o'))
 
-abbrev pub BodyBy : {A B C D : Type 0} → Option (Placed SessionFault) → permutation.Ghosts B → hash.Ghosts C → (w : Direction) → (List ℕ → Functions) → Run → (P o o' : List ℕ) → (s s' : Core A B C D) → Result (ℕ × ℕ) (Placed SessionFault) → Type 0
+abbrev pub BodyBy : {A B C D : Type 0} {u : suite.Ghosts A B C D} {d : digest.Ghosts D} → Option (Placed SessionFault) → (p : permutation.Ghosts B) → (h : hash.Ghosts C) → (w : Direction) → (List ℕ → Functions) → Run → (P o o' : List ℕ) → (s s' : Core A B C D u p h d) → Result (ℕ × ℕ) (Placed SessionFault) → Type 0
 BodyBy (Some e) p h w under R P o o' s s' r = (r ≡ Err e) × (s' ≡ s) × (o' ≡ o)
 BodyBy None p h w under R P o o' s s' r = BodyTaken p h w under R P o o' s' r
 

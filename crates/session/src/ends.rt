@@ -20,7 +20,7 @@ impl<S: Suite> Engine<S> {
     // S for a message of `len` bytes.
     fn mask(&self, len: usize) -> [u8; 16]
         requires { len ≤ 1048576 }
-        ensures { (key H : List ℕ) → EngineAt Permutation-as-Permutation ChainingHash-as-ChainingHash (S.Suite.under key) H self.now → result ≡ size (S.Suite.under key) len }
+        ensures { (key H : List ℕ) → EngineAt S.Permutation.Permutation S.ChainingHash.ChainingHash (S.Suite.under key) H self.now → result ≡ size (S.Suite.under key) len }
     {
         self.permutation.encrypt(S::encode(8 * len as u64))
     }
@@ -33,7 +33,7 @@ impl<S: Suite> Core<S> {
         tag: &mut [u8; 16],
     ) -> Result<usize, Placed<SessionFault>>
         ensures few { IfOk result (λ n. n ≤ 16) }
-        ensures call { (R : Run) → CoreAt Permutation-as-Permutation ChainingHash-as-ChainingHash sealing S.Suite.under R self → SealedBy (empty_check (length R.body)) (S.Suite.under R.key) R last.new tag.new result }
+        ensures call { (R : Run) → CoreAt S.Permutation.Permutation S.ChainingHash.ChainingHash sealing S.Suite.under R self → SealedBy (empty_check (length R.body)) (S.Suite.under R.key) R last.new tag.new result }
     {
         let Core {
             engine,
@@ -132,7 +132,7 @@ impl<S: Suite> Sealing<S> {
         tag: &mut [u8; 16],
     ) -> Result<usize, Placed<SessionFault>>
         ensures few { IfOk result (λ n. n ≤ 16) }
-        ensures call { (R : Run) → CoreAt Permutation-as-Permutation ChainingHash-as-ChainingHash sealing S.Suite.under R self.core → SealedBy (empty_check (length R.body)) (S.Suite.under R.key) R last.new tag.new result }
+        ensures call { (R : Run) → CoreAt S.Permutation.Permutation S.ChainingHash.ChainingHash sealing S.Suite.under R self.core → SealedBy (empty_check (length R.body)) (S.Suite.under R.key) R last.new tag.new result }
     {
         let Sealing { core } = self;
         core.finish_sealing(last, tag)
@@ -144,7 +144,7 @@ impl<S: Suite> Opening<S> {
     // zeros alone. Answers how many bytes they are.
     pub fn finish(self, tag: &[u8], last: &mut [u8; 16]) -> Result<usize, Placed<SessionFault>>
         ensures few { IfOk result (λ n. n ≤ 16) }
-        ensures call { (R : Run) → CoreAt Permutation-as-Permutation ChainingHash-as-ChainingHash opening S.Suite.under R self.core → OpenedBy (end_check (length R.body) (length tag.now)) (S.Suite.under R.key) R tag.now last.new result }
+        ensures call { (R : Run) → CoreAt S.Permutation.Permutation S.ChainingHash.ChainingHash opening S.Suite.under R self.core → OpenedBy (end_check (length R.body) (length tag.now)) (S.Suite.under R.key) R tag.now last.new result }
     {
         let Opening { core } = self;
         core.finish_opening(tag, last)

@@ -1,5 +1,5 @@
 -- One byte more for a chained digest.
-use Rattle.std.proofs.Common.{◌≡◌, ℕ, ◌+◌, ◌<◌, ◌≤◌, List, [], ◌∷◌, ◌++◌, length, take, set, replicate, sym, ap, ◌∙◌, append_assoc, append-nil, arith, length-take, take_all}
+use Rattle.std.proofs.Common.{◌≡◌, ℕ, ◌+◌, ◌<◌, ◌≤◌, List, [], ◌∷◌, ◌++◌, length, take, set, replicate, ap, ◌∙◌, append_assoc, append-nil, arith, length-take, take_all}
 use Rattle.std.proofs.lemmas.List.{take_more_set}
 use Rattle.poet.specs.Bytes.{◌⊕◌}
 use Rattle.suites.specs.Chained.{chained}

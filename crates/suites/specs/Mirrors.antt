@@ -1,6 +1,6 @@
 -- The mirror suite is lawful.
 use Rattle.std.proofs.Common.{◌∙◌, arith}
-use Rattle.std.specs.Prelude.{ℕ, ◌-◌, ◌<◌, List, reverse, length, get_or}
+use Rattle.std.specs.Prelude.{ℕ, ◌-◌, ◌<◌, List, reverse, length}
 use Rattle.std.proofs.lemmas.List.{length-reverse, get_or-reverse, reverse-reverse}
 use Rattle.poet.specs.Bytes.{Block}
 use Rattle.poet.specs.Functions.{Permutes, Lawful}

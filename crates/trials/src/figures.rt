@@ -1,8 +1,8 @@
 // Figures that the mirror suite must give under the empty header.
 use session::whole::{open, seal};
 use std::test::Fail;
-use suite::{HeaderDigest, Suite};
-use suites::mirror::{ChainingHash, Mirror, Permutation};
+use suite::{ChainingHash, HeaderDigest, Permutation, Suite};
+use suites::mirror::Mirror;
 
 // The key of all figures; the mirror suite does not use it.
 const KEY: [u8; 16] = [0x2a; 16];

@@ -45,9 +45,10 @@ fn opens(rt: HostRuntime) -> Result<(), Fail> {
     Ok(())
 }
 
-// Checks that an opening is refused as forged, and leaves zeros where the message would have stood and nothing else altered.
+// Checks that an opening with this part damaged is refused as forged, and leaves zeros where the message would have stood and nothing else altered.
 fn forged(
     rt: &impl Abort,
+    what: &str,
     header: &[u8; 21],
     ciphertext: &[u8; 37],
     tag: &[u8; 16],
@@ -59,11 +60,12 @@ fn forged(
         Err(Placed {
             fault: SessionFault::Forged,
             place: 37,
-        })
+        }),
+        "{what}"
     );
     for (i, b) in out.iter().enumerate() {
         let held = if i < 37 { 0 } else { 0xee };
-        assert_eq!(rt; *b, held, "other bytes after a refusal");
+        assert_eq!(rt; *b, held, "other bytes after a refusal, {what}");
     }
     Ok(())
 }
@@ -82,17 +84,17 @@ fn damage_is_refused(rt: HostRuntime) -> Result<(), Fail> {
     for i in 0..21usize {
         let mut damaged = HEADER;
         damaged[i] ^= 1;
-        forged(&rt, &damaged, &ciphertext, &tag).note("a byte of the header")?;
+        forged(&rt, "a byte of the header", &damaged, &ciphertext, &tag)?;
     }
     for i in 0..37usize {
         let mut damaged = ciphertext;
         damaged[i] ^= 1;
-        forged(&rt, &HEADER, &damaged, &tag).note("a byte of the ciphertext")?;
+        forged(&rt, "a byte of the ciphertext", &HEADER, &damaged, &tag)?;
     }
     for i in 0..16usize {
         let mut damaged = tag;
         damaged[i] ^= 1;
-        forged(&rt, &HEADER, &ciphertext, &damaged).note("a byte of the tag")?;
+        forged(&rt, "a byte of the tag", &HEADER, &ciphertext, &damaged)?;
     }
     Ok(())
 }

@@ -76,9 +76,15 @@ fn cuts_give_one_seal(rt: HostRuntime) -> Result<(), Fail> {
         let headers = stretches(heap, &HEADER, size)?;
         let bodies = stretches(heap, &MESSAGE, size)?;
         let (log, end) = sealing(heap, headers.as_slice(), bodies.as_slice(), true)?;
-        assert!(rt; log.header.as_slice() == &HEADER, "other header taken");
-        assert!(rt; log.body.as_slice() == &MESSAGE, "other body taken");
-        assert!(rt; log.out.as_slice() == &out, "other ciphertext");
+        assert!(rt;
+            log.header.as_slice() == HEADER.as_slice(),
+            "other header taken"
+        );
+        assert!(rt;
+            log.body.as_slice() == MESSAGE.as_slice(),
+            "other body taken"
+        );
+        assert!(rt; log.out.as_slice() == out.as_slice(), "other ciphertext");
         assert!(rt;
             matches!(end, End::Sealed { last: _, tag: t } if t == tag),
             "other tag"
@@ -97,7 +103,7 @@ fn cuts_open_to_one_message(rt: HostRuntime) -> Result<(), Fail> {
         let headers = stretches(heap, &HEADER, size)?;
         let bodies = stretches(heap, &out, size)?;
         let (log, _) = opening(heap, headers.as_slice(), bodies.as_slice(), &tag)?;
-        assert!(rt; log.out.as_slice() == &MESSAGE, "other message");
+        assert!(rt; log.out.as_slice() == MESSAGE.as_slice(), "other message");
         assert_eq!(rt;
             log.answers.as_slice().last().copied(),
             Some(Answer::Finish(Ok(8)))
@@ -129,7 +135,7 @@ fn pairs(rt: HostRuntime) -> Result<(), Fail> {
         Answer::Body(Ok((16, 1))),
         Answer::Body(Ok((32, 1))),
     ];
-    assert!(rt; log.answers.as_slice() == &answers);
+    assert!(rt; log.answers.as_slice() == answers.as_slice());
     assert_eq!(rt; log.out.len(), 48);
     assert_eq!(rt; end, End::Unfinished);
     Ok(())
@@ -182,11 +188,11 @@ fn goes_on_after_refusals(rt: HostRuntime) -> Result<(), Fail> {
         Answer::Body(Ok((0, 8))),
         Answer::Finish(Ok(8)),
     ];
-    assert!(rt; log.answers.as_slice() == &answers);
+    assert!(rt; log.answers.as_slice() == answers.as_slice());
     let mut out = [0; 40];
     let mut tag = [0; 16];
     seal::<Mirror>(&[0x2a; 16], &HEADER, &MESSAGE, &mut out, &mut tag)?;
-    assert!(rt; log.out.as_slice() == &out);
+    assert!(rt; log.out.as_slice() == out.as_slice());
     Ok(())
 }
 

@@ -18,6 +18,7 @@ fn refused(suite: u8) -> Result<usize, Placed<SessionFault>> {
 // Both calls under this number, with this key, body and tag, and room for four bytes.
 fn both_refuse(
     rt: &impl Abort,
+    what: &str,
     suite: u8,
     key: &[u8],
     body: &[u8],
@@ -27,22 +28,41 @@ fn both_refuse(
     let mut place = TAG;
     assert_eq!(rt;
         seal(suite, key, &[], body, &mut out, &mut place),
-        refused(suite)
+        refused(suite),
+        "{what}"
     );
-    assert_eq!(rt; place, TAG, "a refusal wrote the tag");
-    assert_eq!(rt; open(suite, key, &[], body, tag, &mut out), refused(suite));
-    assert_eq!(rt; out, [0xee; 4], "a refusal wrote");
+    assert_eq!(rt; place, TAG, "a refusal wrote the tag, {what}");
+    assert_eq!(rt;
+        open(suite, key, &[], body, tag, &mut out),
+        refused(suite),
+        "{what}"
+    );
+    assert_eq!(rt; out, [0xee; 4], "a refusal wrote, {what}");
     Ok(())
 }
 
 #[test]
 fn unlisted_numbers(rt: HostRuntime) -> Result<(), Fail> {
     for suite in [0, 2, 3, 5, 9, 255] {
-        both_refuse(&rt, suite, &KEY, &[1, 2, 3, 4], &TAG)?;
-        both_refuse(&rt, suite, &KEY[0..3], &[1, 2, 3, 4], &TAG).note("with a short key")?;
-        both_refuse(&rt, suite, &KEY, &[], &TAG).note("with no body")?;
-        both_refuse(&rt, suite, &KEY, &[1, 2, 3, 4, 5], &TAG).note("with little room")?;
-        both_refuse(&rt, suite, &KEY, &[1, 2, 3, 4], &TAG[0..12]).note("with a short tag")?;
+        both_refuse(&rt, "with whole parts", suite, &KEY, &[1, 2, 3, 4], &TAG)?;
+        both_refuse(
+            &rt,
+            "with a short key",
+            suite,
+            &KEY[0..3],
+            &[1, 2, 3, 4],
+            &TAG,
+        )?;
+        both_refuse(&rt, "with no body", suite, &KEY, &[], &TAG)?;
+        both_refuse(&rt, "with little room", suite, &KEY, &[1, 2, 3, 4, 5], &TAG)?;
+        both_refuse(
+            &rt,
+            "with a short tag",
+            suite,
+            &KEY,
+            &[1, 2, 3, 4],
+            &TAG[0..12],
+        )?;
     }
     Ok(())
 }

@@ -1,4 +1,4 @@
-use Rattle.std.proofs.Common.{◌≡◌, ◌<◌, ◌≢◌, length, get_or, sym, ap, ◌∙◌, arith, length-set, get_or-set_other, get_or-set_same, below_more}
+use Rattle.std.proofs.Common.{◌<◌, ◌≢◌, length, get_or, sym, ap, ◌∙◌, arith, length-set, get_or-set_other, get_or-set_same, below_more}
 use lib.Bits.{bit_xor}
 use Rattle.std.proofs.lemmas.List.{ext_get_or}
 use Rattle.poet.specs.Bytes.{◌⊕◌}

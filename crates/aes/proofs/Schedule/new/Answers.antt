@@ -12,23 +12,23 @@ loop-i-init c =
 
 pub loop-i-preserved : goal.loop-i-preserved
 loop-i-preserved c =
-    let l : length c.next-key-next.result ≡ 16 = search rules in
-    let b : (i : ℕ) → i < 16 → get_or c.next-key-next.result i 0 < 256 = search rules in
+    let l : length c.next_key-next.result ≡ 16 = search rules in
+    let b : (i : ℕ) → i < 16 → get_or c.next_key-next.result i 0 < 256 = search rules in
     let i = c.loop-i.invariant in
     let h : c.loop-i.i + 1 < 11 = omega arith in
     let n =
-    next_is c.args.key c.loop-i.i c.loop-i.rc c.loop-i.k c.next-key-next.result (omega arith) i.1 i.2 c.next-key-next.ensures
+    next_is c.args.key c.loop-i.i c.loop-i.rc c.loop-i.k c.next_key-next.result (omega arith) i.1 i.2 c.next_key-next.ensures
     in (
-      set_key c.loop-i.keys (c.loop-i.i + 1) c.next-key-next.result i.0 h (block_from c.next-key-next.result l b),
+      set_key c.loop-i.keys (c.loop-i.i + 1) c.next_key-next.result i.0 h (block_from c.next_key-next.result l b),
       n,
       (let p = power_more c.loop-i.i in cc),
-      placed_more c.args.key c.loop-i.keys c.loop-i.i c.next-key-next.result i.0.count (omega arith) i.3 n,
+      placed_more c.args.key c.loop-i.keys c.loop-i.i c.next_key-next.result i.0.count (omega arith) i.3 n,
     )
 
-pub invariant-of-result : goal.invariant-of-result
-invariant-of-result c =
+pub invariant_of-result : goal.invariant_of-result
+invariant_of-result c =
     let s = c.loop-i.invariant.0 in
-    (s.count, ((λ i h. (s.each i h).long), ((λ i h j _. block_at _ (s.each i h) j), tt)))
+    record { count = s.count; sizes = λ i h. (s.each i h).long; bytes = λ i h j l. block_at _ (s.each i h) j }
 
 pub returns : goal.returns
 returns c = is_schedule c.args.key c.loop-i.keys c.loop-i.invariant.0.count (λ i h. c.loop-i.invariant.3 i (omega arith))

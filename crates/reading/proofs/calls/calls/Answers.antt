@@ -9,7 +9,7 @@ loop-ask-init c es g e =
 
 pub loop-ask-preserved : goal.loop-ask-preserved
 loop-ask-preserved c es g e =
-    one_more _ _ _ _ c.in-ok-answer.answer c.args.asks.now c.loop-ask.ask-index es c.loop-ask-test.true c.in-ok-push.ensures.items c.in-ok-answer.ensures (c.loop-ask.invariant es g e)
+    one_more _ _ _ _ c.in_ok-answer.answer c.args.asks.now c.loop-ask.ask-index es c.loop-ask-test.true c.in_ok-push.ensures.items c.in_ok-answer.ensures (c.loop-ask.invariant es g e)
 
 pub returns : goal.returns
 returns c es g e = all_replied _ _ _ _ es c.loop-ask-test.false (c.loop-ask.invariant es g e)

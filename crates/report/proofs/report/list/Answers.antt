@@ -6,17 +6,17 @@ use Rattle.wire.specs.Wire.{parts_of}
 use Rattle.report.proofs.Delivering.{listed, refused}
 use Rattle.report.proofs.report.list.Goals as goal
 
-pub returns-in-err-open-delivery : goal.returns-in-err-open-delivery
-returns-in-err-open-delivery c =
-    let d = c.in-ok-d.d in
-    let b : Bytes c.args.input.now = bytes_from c.args.input.now (λ k h. (c.type-inv.input k).fits) in
-    let lo : length c.deref-mut.result.now ≡ length (parts_of d).ciphertext = search rules in
-    refused c.args.input.now b d c.in-ok-d.ensures c.deref-mut.result.now c.open-delivery.new.out _ _ lo c.in-err-open-delivery.ensures c.from-residual-in-err-open-delivery.ensures.1
+pub returns-in_err-open_delivery : goal.returns-in_err-open_delivery
+returns-in_err-open_delivery c =
+    let d = c.in_ok-d.d in
+    let b : Bytes c.args.input.now = bytes_from c.args.input.now (λ k h. (c.type_inv.input k).fits) in
+    let lo : length c.deref_mut.result.now ≡ length (parts_of d).ciphertext = search rules in
+    refused c.args.input.now b d c.in_ok-d.ensures c.deref_mut.result.now c.open_delivery.new.out _ _ lo c.in_err-open_delivery.ensures c.from_residual-in_err-open_delivery.ensures.1
 
 pub returns : goal.returns
 returns c =
-    let d = c.in-ok-d.d in
-    let b : Bytes c.args.input.now = bytes_from c.args.input.now (λ k h. (c.type-inv.input k).fits) in
-    let lo : length c.deref-mut.result.now ≡ length (parts_of d).ciphertext = search rules in
-    let se : c.deref.result.now ≡ c.open-delivery.new.out = c.deref.ensures.value ∙ with_items_is c.in-ok-opened.opened c.open-delivery.new.out (c.open-delivery.auto.out ∙ c.deref-mut.ensures.len) in
-    listed c.args.input.now b d c.in-ok-d.ensures c.deref-mut.result.now c.open-delivery.new.out c.deref.result.now c.in-ok-open-delivery.field-0 c.lines.result lo c.open-delivery.auto.out se c.in-ok-open-delivery.ensures c.lines.ensures
+    let d = c.in_ok-d.d in
+    let b : Bytes c.args.input.now = bytes_from c.args.input.now (λ k h. (c.type_inv.input k).fits) in
+    let lo : length c.deref_mut.result.now ≡ length (parts_of d).ciphertext = search rules in
+    let se : c.deref.result.now ≡ c.open_delivery.new.out = c.deref.ensures.value ∙ with_items_is c.in_ok-opened.opened c.open_delivery.new.out (c.open_delivery.auto.out ∙ c.deref_mut.ensures.len) in
+    listed c.args.input.now b d c.in_ok-d.ensures c.deref_mut.result.now c.open_delivery.new.out c.deref.result.now c.in_ok-open_delivery.field-0 c.lines.result lo c.open_delivery.auto.out se c.in_ok-open_delivery.ensures c.lines.ensures

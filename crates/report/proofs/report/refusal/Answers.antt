@@ -3,5 +3,5 @@ use Rattle.report.proofs.report.refusal.Goals as goal
 
 pub returns : goal.returns
 returns c =
-    let h : string_bytes c.in-ok-text.text ≡ codes "refused " ++ (decimal c.number-number.result ++ 10 ∷ []) = c.in-ok-text.ensures.ok in
+    let h : string_bytes c.in_ok-text.text ≡ codes "refused " ++ (decimal c.number-number.result ++ 10 ∷ []) = c.in_ok-text.ensures.ok in
     h ∙ ap (λ (n : ℕ). codes "refused " ++ (decimal n ++ 10 ∷ [])) c.number-number.ensures

@@ -1,4 +1,4 @@
-use Rattle.std.proofs.Common.{◌≡◌, ◌<◌, ◌≤◌, ◌++◌, length, take, ◌∙◌, arith, length-append, length-set, length-take}
+use Rattle.std.proofs.Common.{◌<◌, ◌≤◌, ◌++◌, length, take, ◌∙◌, arith, length-append, length-set, length-take}
 use Rattle.session.proofs.Bytewise.{joined_more, joined_all, byte_held, byte_after}
 use Rattle.session.proofs.blocks.joined.Goals as goal
 use Rattle.session.proofs.blocks.joined.Goals.{then-j-len, else-j-len}

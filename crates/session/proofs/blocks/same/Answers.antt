@@ -1,4 +1,4 @@
-use Rattle.std.proofs.Common.{◌≡◌, ◌<◌, length, get_or, sym, refl, ap, ◌∙◌, arith, below_more, eqb-true}
+use Rattle.std.proofs.Common.{get_or, ap, arith, below_more, eqb-true}
 use borrow.Author.Tests.{eqb-false}
 use Rattle.std.proofs.lemmas.List.{ext_get_or}
 use Rattle.session.proofs.Bytewise.{differs_none, differs_more}

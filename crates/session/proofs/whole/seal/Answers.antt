@@ -4,4 +4,4 @@ use Rattle.session.proofs.whole.seal.Goals as goal
 
 pub returns : goal.returns
 returns g c =
-    sealing_stands g.S.Suite.under _ _ _ _ _ _ c.in-ok-fill.ensures c.in-ok-checked.ensures _ _ _ _ c.in-ok-tail.tail _ c.in-ok-tail.ensures (omega arith) (omega (arith, c.seal-straight.type-inv)) (omega arith) c.copy-from-slice.ensures.after
+    sealing_stands g.S.Suite.under _ _ _ _ _ _ c.in_ok-fill.ensures c.in_ok-checked.ensures _ _ _ _ c.in_ok-tail.tail _ c.in_ok-tail.ensures (omega arith) (omega (arith, c.seal_straight.type_inv)) (omega arith) c.copy_from_slice.ensures.after

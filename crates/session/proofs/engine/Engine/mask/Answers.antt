@@ -1,4 +1,3 @@
-use Rattle.std.proofs.Common.{◌≡◌}
 use Rattle.poet.specs.Rows.{size}
 use Rattle.session.proofs.engine.Engine.mask.Goals as goal
 

@@ -1,4 +1,4 @@
-use Rattle.std.proofs.Common.{◌≡◌, ℕ, ◌+◌, ◌-◌, ◌*◌, ◌/◌, ◌≤◌, true, false, ltb, List, ◌++◌, length, take, drop, refl, ap, ap₂, subst₂, arith, length-append, rules, le-ltb, lt-ltb}
+use Rattle.std.proofs.Common.{◌≡◌, ℕ, ◌+◌, ◌*◌, ◌/◌, true, false, ltb, List, ◌++◌, length, take, drop, refl, ap, ap₂, subst₂, arith, length-append, rules, le-ltb, lt-ltb}
 use Rattle.poet.specs.Rows.{whole, start}
 use Rattle.poet.proofs.Xors.{bytes_append, bytes_from}
 use Rattle.session.specs.Directions.{picks, turns}
@@ -15,7 +15,7 @@ returns-then-out-given g c =
     let f = g.S.Suite.under R.key in
     let P = c.args.input.now in
     let k = a.total_is in
-    let u = c.saturating-sub-n.ensures in
+    let u = c.saturating_sub-n.ensures in
     let o = out_length f (g.met.S.Suite.lawful R.key a.taken.key_block) g.W.Way.way R a.taken.header_bytes a.taken.body_bytes a.out_is in
     let e : ltb 1048576 (length R.body + length P) ≡ false = le-ltb 1048576 (length R.body + length P) (omega arith) in
     let d : ltb (length c.args.out.now) (writes (held R + length P)) ≡ true = lt-ltb (length c.args.out.now) (writes (held R + length P)) (omega arith) in
@@ -28,14 +28,14 @@ returns g c =
     let M = R.body in
     let P = c.args.input.now in
     let k = a.total_is in
-    let v = c.saturating-sub-n.ensures in
+    let v = c.saturating_sub-n.ensures in
     let l = length-append M P in
     let L = g.met.S.Suite.lawful R.key a.taken.key_block in
     let o = out_length f L g.W.Way.way R a.taken.header_bytes a.taken.body_bytes a.out_is in
     let e : ltb 1048576 (length M + length P) ≡ false = le-ltb 1048576 (length M + length P) (omega arith) in
     let d : ltb (length c.args.out.now) (writes (held R + length P)) ≡ false = le-ltb (length c.args.out.now) (writes (held R + length P)) (omega arith) in
     let s = c.args.self.now in
-    let n : ℕ = c.saturating-sub-n.result / 16 in
+    let n : ℕ = c.saturating_sub-n.result / 16 in
     let g₁ : writes (held R + length P) ≡ 16 * n = omega arith in
     let w : whole (M ++ P) ≡ whole M + n = omega arith in
     let u : take s.len s.held ++ P ≡ drop (16 * whole M) M ++ P = ap (λ z. z ++ P) a.held_is in

@@ -1,4 +1,4 @@
-use Rattle.std.proofs.Common.{ℕ, List, refl, arith, rules}
+use Rattle.std.proofs.Common.{refl, arith, rules}
 use Rattle.poet.proofs.Xors.{bytes_from}
 use Rattle.session.proofs.Finishing.{opening_accepts, opening_refuses}
 use Rattle.session.proofs.types.Core.finish_opening.Goals as goal
@@ -8,7 +8,7 @@ returns-then-not-accepted g c = record {
   few = tt;
   call =
       λ R a.
-      opening_refuses (g.S.Suite.under R.key) (g.met.S.Suite.lawful R.key a.taken.key_block) R a.taken c.args.self.total a.total_is (omega arith) (omega arith) c.args.tag.now _ (bytes_from c.args.tag.now (λ i j. search rules)) c.in-ok-tag.ensures a.out_is _ _
+      opening_refuses (g.S.Suite.under R.key) (g.met.S.Suite.lawful R.key a.taken.key_block) R a.taken c.args.self.total a.total_is (omega arith) (omega arith) c.args.tag.now _ (bytes_from c.args.tag.now (λ i j. search rules)) c.in_ok-tag.ensures a.out_is _ _
       (c.verdict-accepted.ensures R a)
       c.if-not-accepted.true;
 }
@@ -19,7 +19,7 @@ returns g c = record {
   call =
       λ R a.
       let k = a.total_is in
-      opening_accepts (g.S.Suite.under R.key) (g.met.S.Suite.lawful R.key a.taken.key_block) R a.taken c.args.self.total a.total_is (omega arith) (omega arith) c.args.tag.now _ (bytes_from c.args.tag.now (λ i j. search rules)) c.in-ok-tag.ensures a.out_is _ _
+      opening_accepts (g.S.Suite.under R.key) (g.met.S.Suite.lawful R.key a.taken.key_block) R a.taken c.args.self.total a.total_is (omega arith) (omega arith) c.args.tag.now _ (bytes_from c.args.tag.now (λ i j. search rules)) c.in_ok-tag.ensures a.out_is _ _
       (c.verdict-accepted.ensures R a)
       c.args.self.len
       _
@@ -27,7 +27,7 @@ returns g c = record {
       _
       c.if-not-accepted.false
       (omega arith)
-      (omega (arith, c.verdict-accepted.type-inv))
+      (omega (arith, c.verdict-accepted.type_inv))
       (omega arith)
       refl
       c.complete.ensures;

@@ -12,7 +12,7 @@ returns g c =
     let n : s.len - 0 ≡ s.len = omega arith in
     tested f R.header R.body c.args.tag.now {k = s.len - 0} {j = 16 - s.len - 0} a.engine.enc_is a.engine.dec_is a.engine.chain_is a.engine.tau_is (c.mask-mask.ensures R.key R.header a.engine ∙ ap (size f) k) a.x_is a.y_is (ap (λ i. take i s.held) n ∙ a.held_is)
     c.complete-block.ensures
-    c.last-row.ensures
+    c.last_row.ensures
     c.closing-z.ensures
     refl
     c.complete-sound.ensures
@@ -20,7 +20,7 @@ returns g c =
     c.complete-expected.ensures
     (omega arith)
     (omega arith)
-    (omega (arith, c.last-row.type-inv))
+    (omega (arith, c.last_row.type_inv))
     (omega arith)
     c.same-padded.ensures.yes
     c.same-padded.ensures.no

@@ -1,5 +1,4 @@
-use Rattle.std.proofs.Common.{◌≡◌, ℕ, List, [], sym, refl, ap, ◌∙◌, append-nil}
-use Rattle.poet.specs.Bytes.{◌⊕◌}
+use Rattle.std.proofs.Common.{◌≡◌, ap, ◌∙◌, append-nil}
 use Rattle.session.proofs.Starts.{started}
 use Rattle.session.proofs.types.Heading.start.Goals as goal
 

@@ -1,4 +1,4 @@
-use Rattle.std.proofs.Common.{◌≡◌, refl, ap, arith, rules}
+use Rattle.std.proofs.Common.{refl, ap, arith, rules}
 use Rattle.poet.proofs.Xors.{bytes_nil, bytes_from}
 use Rattle.session.proofs.types.Heading.under.Goals as goal
 
@@ -12,9 +12,9 @@ returns g c = record {
   };
   no_body = refl;
   no_out = refl;
-  enc_is = c.set-up-permutation.ensures.enc;
-  dec_is = c.set-up-permutation.ensures.dec;
-  chain_is = c.set-up-permutation.ensures.chain;
-  rule_is = λ r. ap (λ f. f r) c.set-up-permutation.ensures.dig;
+  enc_is = c.set_up-permutation.ensures.enc;
+  dec_is = c.set_up-permutation.ensures.dec;
+  chain_is = c.set_up-permutation.ensures.chain;
+  rule_is = λ r. ap (λ f. f r) c.set_up-permutation.ensures.dig;
   count_is = refl;
 }

@@ -1,4 +1,4 @@
-use Rattle.std.proofs.Common.{◌≡◌, ap, arith}
+use Rattle.std.proofs.Common.{ap, arith}
 use Rattle.suites.specs.Chained.{chained}
 use Rattle.suites.proofs.Pushes.{held_more, row_more}
 use Rattle.suites.proofs.chained.Chained.push.Goals as goal

@@ -10,11 +10,11 @@ pub returns : goal.returns
 returns c =
     let keys : Aes128 → List (List ℕ) = λ a. a.0.keys in
     let k : (a : Aes128) → keys a ≡ schedule c.encipher-k.result → keys a ≡ schedule (cipher_key c.args.key) =
-    λ a e. made c.args.key c.big-endian.result c.encipher-k.result c.new-delivered.result.keys (keys a) 1 c.new-delivered.ensures c.big-endian.ensures c.encipher-k.ensures e in
+    λ a e. made c.args.key c.big_endian.result c.encipher-k.result c.new-delivered.result.keys (keys a) 1 c.new-delivered.ensures c.big_endian.ensures c.encipher-k.ensures e in
     let f : (a : Aes128) → keys a ≡ schedule c.encipher-kf.result → keys a ≡ schedule (chain_key c.args.key) =
-    λ a e. made c.args.key c.big-endian-2.result c.encipher-kf.result c.new-delivered.result.keys (keys a) 2 c.new-delivered.ensures c.big-endian-2.ensures c.encipher-kf.ensures e in
+    λ a e. made c.args.key c.big_endian-2.result c.encipher-kf.result c.new-delivered.result.keys (keys a) 2 c.new-delivered.ensures c.big_endian-2.ensures c.encipher-kf.ensures e in
     let d = c.new-digest.ensures in
-    let first = c.big-endian-3.ensures in
+    let first = c.big_endian-3.ensures in
     record {
       enc = ap cipher (k c.under-3.result c.under-3.ensures);
       dec = ap inv_cipher (k c.under-3.result c.under-3.ensures);
