@@ -1,7 +1,8 @@
 -- Each field: what is written is read back, and what is read was written.
 use Rattle.std.proofs.Common.{◌≡◌, ℕ, zero, suc, ◌+◌, ◌*◌, ◌/◌, ◌%◌, ◌^◌, ◌<◌, ◌≤◌, Bool, true, false, cond, ◌&&◌, ◌||◌, eqb, ltb, leb, List, [], ◌∷◌, ◌++◌, length, get_or, take, drop, ℤ, pos, negsuc, is_some, Some, None, Option, sym, refl, ap, ◌∙◌, subst, arith, length-append, take-append-drop, length-take-le, w8, SFits, to_z, le-leb}
-use Rattle.std.specs.List.{AllByRecursion as All}
+use Rattle.std.specs.List.{All}
 use Rattle.std.proofs.lemmas.List.{take_at, drop_at}
+use Rattle.std.proofs.lemmas.List.Elements.{All-nil, All-cons, All-head, All-tail}
 use Rattle.std.proofs.lemmas.Bool.Decides.{nat_tests, Decides-below_and, Decides-eqb}
 use Rattle.std.proofs.lemmas.Int.{to_z-of_z, of_z-to_z}
 use Rattle.fault.specs.declared.kinds.SheetFault.{SheetFault}
@@ -16,12 +17,12 @@ abbrev pub Octets : List ℕ → Type 0
 Octets bs = All (λ b. b < 256) bs
 
 pub octets_left : (xs ys : List ℕ) → Octets (xs ++ ys) → Octets xs
-octets_left [] ys h = tt
-octets_left (x ∷ xs) ys h = (h.0, octets_left xs ys h.1)
+octets_left [] ys h = All-nil (λ b. b < 256)
+octets_left (x ∷ xs) ys h = All-cons (λ b. b < 256) x xs (All-head (λ b. b < 256) x (xs ++ ys) h) (octets_left xs ys (All-tail (λ b. b < 256) x (xs ++ ys) h))
 
 pub octets_right : (xs ys : List ℕ) → Octets (xs ++ ys) → Octets ys
 octets_right [] ys h = h
-octets_right (x ∷ xs) ys h = octets_right xs ys h.1
+octets_right (x ∷ xs) ys h = octets_right xs ys (All-tail (λ b. b < 256) x (xs ++ ys) h)
 
 pub fault_got : {X : Type 0} (f : SheetFault) (a : X) (r : List ℕ) → fault f ≡ got a r → ⊥
 fault_got f a r e = let z : ◌≡◌ {A = ℕ} 0 1 = cc in omega arith
@@ -72,15 +73,20 @@ two_sound : (s : List ℕ) → length s ≡ 2 → Octets s → two (two_of s) �
 two_sound [] l o = absurd (omega arith)
 two_sound (a ∷ []) l o = absurd (omega arith)
 two_sound (a ∷ b ∷ []) l o =
-    let p : (a * 256 + b) / 256 % 256 ≡ a = omega (arith, o.0, o.1.0) in
-    let q : (a * 256 + b) % 256 ≡ b = omega (arith, o.0, o.1.0) in
+    let g : a < 256 = o 0 0 (omega arith) in
+    let h : b < 256 = o 1 0 (omega arith) in
+    let p : (a * 256 + b) / 256 % 256 ≡ a = omega arith in
+    let q : (a * 256 + b) % 256 ≡ b = omega arith in
     ap (λ x. x ∷ ((a * 256 + b) % 256) ∷ []) p ∙ ap (λ x. a ∷ x ∷ []) q
 two_sound (a ∷ b ∷ c ∷ s) l o = absurd (omega arith)
 
 two_small : (s : List ℕ) → length s ≡ 2 → Octets s → two_of s < 65536
 two_small [] l o = absurd (omega arith)
 two_small (a ∷ []) l o = absurd (omega arith)
-two_small (a ∷ b ∷ []) l o = omega (arith, o.0, o.1.0)
+two_small (a ∷ b ∷ []) l o =
+    let g : a < 256 = o 0 0 (omega arith) in
+    let h : b < 256 = o 1 0 (omega arith) in
+    omega arith
 two_small (a ∷ b ∷ c ∷ s) l o = absurd (omega arith)
 
 pub number_lawful : (k : ℕ) → (row_of k).width ≡ 2 → ((n : ℕ) → NumberForm k n → n < 65536) → Lawful (NumberForm k) two (read_number k)
@@ -114,7 +120,7 @@ landing_fits (negsuc n) f = record { sfits = grind (arith, nat_tests) }
 
 one_sound : (s : List ℕ) → length s ≡ 1 → Octets s → one (to_z w8 (get_or s 0 0)) ≡ s
 one_sound [] l o = absurd (omega arith)
-one_sound (b ∷ []) l o = ap (λ x. x ∷ []) (of_z-to_z w8 b o.0)
+one_sound (b ∷ []) l o = ap (λ x. x ∷ []) (of_z-to_z w8 b (o 0 0 (omega arith)))
 one_sound (a ∷ b ∷ s) l o = absurd (omega arith)
 
 pub landing_lawful : Lawful LandingForm one read_landing

@@ -1,6 +1,5 @@
 -- The laws of the sheet's definitions.
-use Rattle.std.specs.Prelude.{◌≡◌, ℕ, ◌+◌, ◌<◌, ◌≤◌, ◌↔◌, List, [], ◌∷◌, ◌++◌, length, take, drop, Ok}
-use Rattle.std.specs.List.{AllByRecursion as All}
+use Rattle.std.specs.Prelude.{◌≡◌, ℕ, ◌+◌, ◌<◌, ◌≤◌, ◌↔◌, List, [], ◌∷◌, ◌++◌, length, take, drop, All, Ok}
 use Rattle.sheet.specs.Entries.{Item, Good, AllGood, bytes, sheet_of}
 use Rattle.sheet.specs.Reading.{got, read_item}
 use Rattle.sheet.specs.Calls.{Wrote}

@@ -5,51 +5,91 @@ use listing::line::line;
 use listing::need::yearly_need;
 use sheet::entry::Entry;
 use std::alloc::Global;
+use std::fmt::Display;
 use std::process::Abort;
 use std::test::Fail;
 
 // The line of an entry at place 3, in exact room and with more, which is left as it was.
-fn shows(rt: &impl Abort, heap: Global, e: Entry<'_>, text: &[u8]) -> Result<(), Fail> {
+fn shows(
+    rt: &impl Abort,
+    heap: Global,
+    e: Entry<'_>,
+    text: &[u8],
+    case: &impl Display,
+) -> Result<(), Fail> {
     let mut shown = vec![in heap; 0xee; 3]?;
     shown.extend_from_slice(text)?;
     let end = shown.len();
     let mut exact = vec![in heap; 0xee; end]?;
-    assert_eq!(rt; line(e, &mut exact, 3), Ok(end));
-    assert!(rt; exact.as_slice() == shown.as_slice(), "other line");
+    assert_eq!(rt; line(e, &mut exact, 3), Ok(end), "{case}");
+    assert!(rt; exact.as_slice() == shown.as_slice(), "other line: {case}");
     let mut buf = [0xee; 75];
-    assert_eq!(rt; line(e, &mut buf, 3), Ok(end));
-    kept(rt, &buf, 3, end);
-    lacks_room(rt, heap, e, end)
+    assert_eq!(rt; line(e, &mut buf, 3), Ok(end), "{case}");
+    kept(rt, &buf, 3, end, case);
+    lacks_room(rt, heap, e, end, case)
 }
 
 // An entry whose line ends at this place is refused for its room, one byte short and past the buffer.
-fn lacks_room(rt: &impl Abort, heap: Global, e: Entry<'_>, end: usize) -> Result<(), Fail> {
-    assert!(rt; 3 < end);
+fn lacks_room(
+    rt: &impl Abort,
+    heap: Global,
+    e: Entry<'_>,
+    end: usize,
+    case: &impl Display,
+) -> Result<(), Fail> {
+    assert!(rt; 3 < end, "{case}");
     let mut buf = vec![in heap; 0xee; end - 1]?;
-    assert_eq!(rt; line(e, &mut buf, 3), refused(SheetFault::Room, 3));
-    assert_eq!(rt; line(e, &mut buf, end), refused(SheetFault::Room, end));
-    kept(rt, &buf, 0, 0);
+    assert_eq!(rt;
+        line(e, &mut buf, 3),
+        refused(SheetFault::Room, 3),
+        "{case}"
+    );
+    assert_eq!(rt;
+        line(e, &mut buf, end),
+        refused(SheetFault::Room, end),
+        "{case}"
+    );
+    kept(rt, &buf, 0, 0, case);
     Ok(())
 }
 
 // An entry is refused for its values, where its line has no room too.
-fn refuses(rt: &impl Abort, e: Entry<'_>) {
+fn refuses(rt: &impl Abort, e: Entry<'_>, case: &impl Display) {
     let mut buf = [0xee; 75];
-    assert_eq!(rt; line(e, &mut buf, 3), refused(SheetFault::Value, 3));
-    assert_eq!(rt; line(e, &mut buf, 75), refused(SheetFault::Value, 75));
-    assert_eq!(rt; line(e, &mut buf, 76), refused(SheetFault::Value, 76));
-    kept(rt, &buf, 0, 0);
+    assert_eq!(rt;
+        line(e, &mut buf, 3),
+        refused(SheetFault::Value, 3),
+        "{case}"
+    );
+    assert_eq!(rt;
+        line(e, &mut buf, 75),
+        refused(SheetFault::Value, 75),
+        "{case}"
+    );
+    assert_eq!(rt;
+        line(e, &mut buf, 76),
+        refused(SheetFault::Value, 76),
+        "{case}"
+    );
+    kept(rt, &buf, 0, 0, case);
 }
 
 #[test]
 fn lines(rt: HostRuntime) -> Result<(), Fail> {
     let heap = rt.alloc();
-    shows(&rt, heap, SHORTEST, b"DOORSH01;-;2;-;-;-;-\n")?;
+    shows(
+        &rt,
+        heap,
+        SHORTEST,
+        b"DOORSH01;-;2;-;-;-;-\n",
+        &"the shortest entry",
+    )?;
     shows(
         &rt,
         heap,
         LONGEST,
         b"ROLLER77;DOORSH01;9999;-5;600;200;A/1234567890/BCDEFGHIJKLMNOPQRST\n",
+        &"the longest entry",
     )?;
     let e = Entry {
         months: Some(1),
@@ -60,21 +100,27 @@ fn lines(rt: HostRuntime) -> Result<(), Fail> {
         heap,
         e,
         b"ROLLER77;DOORSH01;9999;-5;1;119988;A/1234567890/BCDEFGHIJKLMNOPQRST\n",
-    )
-    .note("as long as a line can be")?;
+        &"as long as a line can be",
+    )?;
     let e = Entry {
         landing: Some(0),
         months: Some(25),
         count: 1,
         ..SHORTEST
     };
-    shows(&rt, heap, e, b"DOORSH01;-;1;0;25;0;-\n")?;
+    shows(&rt, heap, e, b"DOORSH01;-;1;0;25;0;-\n", &"a need of 0")?;
     let e = Entry {
         landing: Some(40),
         parent: Some(b"CABIN001"),
         ..SHORTEST
     };
-    shows(&rt, heap, e, b"DOORSH01;CABIN001;2;40;-;-;-\n")
+    shows(
+        &rt,
+        heap,
+        e,
+        b"DOORSH01;CABIN001;2;40;-;-;-\n",
+        &"a parent and a landing",
+    )
 }
 
 #[test]
@@ -85,6 +131,7 @@ fn values_before_room(rt: HostRuntime) {
             count: 10000,
             ..LONGEST
         },
+        &"count",
     );
     refuses(
         &rt,
@@ -92,6 +139,7 @@ fn values_before_room(rt: HostRuntime) {
             months: Some(0),
             ..LONGEST
         },
+        &"months",
     );
     refuses(
         &rt,
@@ -99,6 +147,7 @@ fn values_before_room(rt: HostRuntime) {
             drawing: Some(b""),
             ..LONGEST
         },
+        &"drawing",
     );
 }
 

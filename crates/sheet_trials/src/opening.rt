@@ -7,6 +7,7 @@ use fault::kinds::{KeyFault, Placed, SessionFault, SheetFault};
 use sheet::entry::Entry;
 use sheet::writing::write;
 use std::alloc::Global;
+use std::fmt::Display;
 use std::process::Abort;
 use std::test::Fail;
 use wire::parse::Delivery;
@@ -20,8 +21,11 @@ fn opens(rt: HostRuntime) {
     for d in [SHAFT, MIRROR] {
         let mut out = [0xee; 90];
         assert_eq!(rt; open(d, &mut out), Ok(3));
-        assert!(rt; &out[0..84] == SHEET, "other sheet");
-        assert!(rt; &out[84..90] == &[0xee; 6], "written past the sheet");
+        assert!(rt; &out[0..84] == SHEET.as_slice(), "other sheet");
+        assert!(rt;
+            &out[84..90] == [0xee; 6].as_slice(),
+            "written past the sheet"
+        );
     }
 }
 
@@ -65,8 +69,14 @@ fn largest_sheet(rt: HostRuntime) -> Result<(), Fail> {
         let n = seal(ends.suite, KEY, LABEL, &sheet, &mut ciphertext, &mut tag)?;
         assert_eq!(rt; n, 16384);
         assert!(rt; ciphertext.len() == 16384);
-        assert!(rt; &ciphertext[0..16] == &ends.first, "other ciphertext");
-        assert!(rt; &ciphertext[16368..16384] == &ends.last, "other ciphertext");
+        assert!(rt;
+            &ciphertext[0..16] == ends.first.as_slice(),
+            "other ciphertext"
+        );
+        assert!(rt;
+            &ciphertext[16368..16384] == ends.last.as_slice(),
+            "other ciphertext"
+        );
         assert_eq!(rt; tag, ends.tag);
         let mut out = vec![in heap; 0xee; 16384]?;
         let count = open_sheet(ends.suite, KEY, LABEL, &ciphertext, &tag, &mut out)?;
@@ -85,14 +95,15 @@ fn refuses(
     number: u8,
     fault: SheetFault,
     place: usize,
+    case: &impl Display,
 ) -> Result<(), Fail> {
     let mut out = vec![in heap; 0xee; room]?;
-    assert_eq!(rt; open(d, &mut out), refused(fault, place));
-    assert_eq!(rt; fault.number(), number);
+    assert_eq!(rt; open(d, &mut out), refused(fault, place), "{case}");
+    assert_eq!(rt; fault.number(), number, "{case}");
     let zeros = if number < 9 { 0 } else { d.ciphertext.len() };
     for (i, b) in out.as_slice().iter().enumerate() {
         let held = if i < zeros { 0 } else { 0xee };
-        assert_eq!(rt; *b, held, "other bytes after a refusal");
+        assert_eq!(rt; *b, held, "other bytes after a refusal: {case}");
     }
     Ok(())
 }
@@ -106,10 +117,10 @@ fn refused_for_key(rt: HostRuntime) -> Result<(), Fail> {
         ..SHAFT
     };
     let fault = SheetFault::Session(SessionFault::Key(KeyFault::Suite));
-    refuses(&rt, heap, d, 90, 2, fault, 9)?;
+    refuses(&rt, heap, d, 90, 2, fault, 9, &"suite")?;
     let d = Delivery { suite: 1, ..d };
     let fault = SheetFault::Session(SessionFault::Key(KeyFault::Length));
-    refuses(&rt, heap, d, 90, 3, fault, 15)
+    refuses(&rt, heap, d, 90, 3, fault, 15, &"length of the key")
 }
 
 #[test]
@@ -128,6 +139,7 @@ fn refused_for_header(rt: HostRuntime) -> Result<(), Fail> {
         4,
         SheetFault::Session(SessionFault::Header),
         0,
+        &"header",
     )
 }
 
@@ -140,14 +152,14 @@ fn refused_for_body(rt: HostRuntime) -> Result<(), Fail> {
         ..SHAFT
     };
     let fault = SheetFault::Session(SessionFault::Body);
-    refuses(&rt, heap, d, 1048577, 5, fault, 0)
+    refuses(&rt, heap, d, 1048577, 5, fault, 0, &"body")
 }
 
 #[test]
 fn refused_for_room_or_tag(rt: HostRuntime) -> Result<(), Fail> {
     let heap = rt.alloc();
     let fault = SheetFault::Session(SessionFault::Room);
-    refuses(&rt, heap, SHAFT, 83, 6, fault, 0)?;
+    refuses(&rt, heap, SHAFT, 83, 6, fault, 0, &"room")?;
     let d = Delivery {
         ciphertext: b"",
         ..SHAFT
@@ -160,6 +172,7 @@ fn refused_for_room_or_tag(rt: HostRuntime) -> Result<(), Fail> {
         7,
         SheetFault::Session(SessionFault::Empty),
         0,
+        &"no body",
     )?;
     let tag = SHAFT.tag;
     assert!(rt; tag.len() == 16);
@@ -175,6 +188,7 @@ fn refused_for_room_or_tag(rt: HostRuntime) -> Result<(), Fail> {
         8,
         SheetFault::Session(SessionFault::Tag),
         0,
+        &"tag",
     )
 }
 
@@ -187,8 +201,9 @@ fn refuses_sealed(
     number: u8,
     fault: SheetFault,
     place: usize,
+    case: &impl Display,
 ) -> Result<(), Fail> {
-    assert!(rt; sheet.len() < 99);
+    assert!(rt; sheet.len() < 99, "{case}");
     let mut ciphertext = vec![in heap; 0; sheet.len()]?;
     let mut tag = [0; 16];
     seal(suite, KEY, LABEL, sheet, &mut ciphertext, &mut tag)?;
@@ -198,7 +213,7 @@ fn refuses_sealed(
         tag: &tag,
         ..SHAFT
     };
-    refuses(rt, heap, d, sheet.len() + 6, number, fault, place)
+    refuses(rt, heap, d, sheet.len() + 6, number, fault, place, case)
 }
 
 const BROKEN: [(&'static [u8], u8, SheetFault, usize); 6] = [
@@ -234,12 +249,26 @@ const BROKEN: [(&'static [u8], u8, SheetFault, usize); 6] = [
 fn refused_sheets(rt: HostRuntime) -> Result<(), Fail> {
     for i in 0..6usize {
         let (sheet, number, fault, place) = BROKEN[i];
-        refuses_sealed(&rt, rt.alloc(), 1, sheet, number, fault, place).note(format_args!(
-            "case {i}"
-        ))?;
-        refuses_sealed(&rt, rt.alloc(), 4, sheet, number, fault, place).note(format_args!(
-            "case {i}"
-        ))?;
+        refuses_sealed(
+            &rt,
+            rt.alloc(),
+            1,
+            sheet,
+            number,
+            fault,
+            place,
+            &format_args!("case {i}"),
+        )?;
+        refuses_sealed(
+            &rt,
+            rt.alloc(),
+            4,
+            sheet,
+            number,
+            fault,
+            place,
+            &format_args!("case {i}"),
+        )?;
     }
     Ok(())
 }
@@ -259,6 +288,7 @@ fn forged<'a>(
     header: &'a [u8],
     ciphertext: &'a [u8],
     tag: &'a [u8],
+    case: &impl Display,
 ) -> Result<(), Fail> {
     let d = Delivery {
         header,
@@ -274,6 +304,7 @@ fn forged<'a>(
         9,
         SheetFault::Session(SessionFault::Forged),
         84,
+        case,
     )
 }
 
@@ -282,20 +313,35 @@ fn damage_is_refused(rt: HostRuntime) -> Result<(), Fail> {
     let heap = rt.alloc();
     for i in 0..18usize {
         let header = damaged(&rt, heap, SHAFT.header, i)?;
-        forged(&rt, heap, header.as_slice(), SHAFT.ciphertext, SHAFT.tag).note(
-            "a byte of the header",
+        forged(
+            &rt,
+            heap,
+            header.as_slice(),
+            SHAFT.ciphertext,
+            SHAFT.tag,
+            &"a byte of the header",
         )?;
     }
     for i in 0..84usize {
         let ciphertext = damaged(&rt, heap, SHAFT.ciphertext, i)?;
-        forged(&rt, heap, SHAFT.header, ciphertext.as_slice(), SHAFT.tag).note(
-            "a byte of the ciphertext",
+        forged(
+            &rt,
+            heap,
+            SHAFT.header,
+            ciphertext.as_slice(),
+            SHAFT.tag,
+            &"a byte of the ciphertext",
         )?;
     }
     for i in 0..16usize {
         let tag = damaged(&rt, heap, SHAFT.tag, i)?;
-        forged(&rt, heap, SHAFT.header, SHAFT.ciphertext, tag.as_slice()).note(
-            "a byte of the tag",
+        forged(
+            &rt,
+            heap,
+            SHAFT.header,
+            SHAFT.ciphertext,
+            tag.as_slice(),
+            &"a byte of the tag",
         )?;
     }
     Ok(())

@@ -2,6 +2,7 @@
 use crate::vectors::KEY;
 use fault::kinds::{ConsoleFault, Placed};
 use std::alloc::{AllocError, Global};
+use std::fmt::Display;
 use std::process::Abort;
 use std::test::Fail;
 use wire::parse::parse;
@@ -27,21 +28,25 @@ fn parses(
     header: u16,
     ciphertext: u16,
     len: usize,
+    case: &impl Display,
 ) -> Result<(), Fail> {
     let input = delivery(heap, header, ciphertext as u32, ciphertext)?;
-    assert_eq!(rt; input.len(), len);
+    assert_eq!(rt; input.len(), len, "{case}");
     let d = parse(&input)?;
-    assert_eq!(rt; d.suite, 4);
-    assert!(rt; d.key == KEY, "other key");
+    assert_eq!(rt; d.suite, 4, "{case}");
+    assert!(rt; d.key == KEY.as_slice(), "other key: {case}");
     let filled = vec![in heap; 0x22; header as usize]?;
-    assert!(rt; d.header == filled.as_slice(), "other header");
+    assert!(rt; d.header == filled.as_slice(), "other header: {case}");
     let filled = vec![in heap; 0x33; ciphertext as usize]?;
-    assert!(rt; d.ciphertext == filled.as_slice(), "other ciphertext");
-    assert!(rt; d.tag == TAG, "other tag");
+    assert!(rt;
+        d.ciphertext == filled.as_slice(),
+        "other ciphertext: {case}"
+    );
+    assert!(rt; d.tag == TAG.as_slice(), "other tag: {case}");
     Ok(())
 }
 
-fn refuses(rt: &impl Abort, input: &[u8], place: usize) -> Result<(), Fail> {
+fn refuses(rt: &impl Abort, input: &[u8], place: usize, case: &impl Display) -> Result<(), Fail> {
     let Err(e) = parse(input) else {
         return Err(Fail::new("parsed"));
     };
@@ -50,7 +55,8 @@ fn refuses(rt: &impl Abort, input: &[u8], place: usize) -> Result<(), Fail> {
         Placed {
             fault: ConsoleFault::Input,
             place,
-        }
+        },
+        "{case}"
     );
     Ok(())
 }
@@ -58,12 +64,22 @@ fn refuses(rt: &impl Abort, input: &[u8], place: usize) -> Result<(), Fail> {
 #[test]
 fn lengths(rt: HostRuntime) -> Result<(), Fail> {
     let heap = rt.alloc();
-    parses(&rt, heap, 0, 0, 39)?;
-    parses(&rt, heap, 5, 12, 56)?;
-    parses(&rt, heap, 4096, 16384, 20519).note("the longest")?;
-    refuses(&rt, &delivery(heap, 4097, 12, 12)?, 4148).note("a long header")?;
-    refuses(&rt, &delivery(heap, 5, 16385, 16385)?, 16429).note("a long ciphertext")?;
-    refuses(&rt, &delivery(heap, 5, 65548, 12)?, 56).note("a length of more than two bytes")
+    parses(&rt, heap, 0, 0, 39, &"the shortest")?;
+    parses(&rt, heap, 5, 12, 56, &"some between")?;
+    parses(&rt, heap, 4096, 16384, 20519, &"the longest")?;
+    refuses(&rt, &delivery(heap, 4097, 12, 12)?, 4148, &"a long header")?;
+    refuses(
+        &rt,
+        &delivery(heap, 5, 16385, 16385)?,
+        16429,
+        &"a long ciphertext",
+    )?;
+    refuses(
+        &rt,
+        &delivery(heap, 5, 65548, 12)?,
+        56,
+        &"a length of more than two bytes",
+    )
 }
 
 #[test]
@@ -71,10 +87,10 @@ fn cut_or_followed(rt: HostRuntime) -> Result<(), Fail> {
     let heap = rt.alloc();
     let mut input = delivery(heap, 5, 12, 12)?;
     for n in 0..input.len() {
-        refuses(&rt, &input[0..n], n).note(format_args!("cut to {n} bytes"))?;
+        refuses(&rt, &input[0..n], n, &format_args!("cut to {n} bytes"))?;
     }
     input.push(0)?;
-    refuses(&rt, &input, 57).note("a byte after the tag")
+    refuses(&rt, &input, 57, &"a byte after the tag")
 }
 
 #[test]
@@ -82,7 +98,7 @@ fn past_the_longest(rt: HostRuntime) -> Result<(), Fail> {
     let mut input = delivery(rt.alloc(), 4096, 16384, 16384)?;
     for len in [20520, 20521, 1048576] {
         input.resize(len, 0)?;
-        refuses(&rt, &input, 20520).note(format_args!("{len} bytes"))?;
+        refuses(&rt, &input, 20520, &format_args!("{len} bytes"))?;
     }
     Ok(())
 }

@@ -6,6 +6,7 @@ use sheet::reader::Reader;
 use sheet::whole::test;
 use sheet::writing::write;
 use std::alloc::Global;
+use std::fmt::Display;
 use std::process::Abort;
 use std::test::Fail;
 
@@ -36,24 +37,29 @@ fn answers(r: &Reader<'_>, kind: Kind, e: Entry<'_>) -> bool {
 }
 
 // The reader speaks for this entry.
-fn speaks_for(rt: &impl Abort, r: &Reader<'_>, e: Entry<'_>) {
+fn speaks_for(rt: &impl Abort, r: &Reader<'_>, e: Entry<'_>, case: &impl Display) {
     for kind in KINDS {
-        assert!(rt; answers(r, kind, e), "other field");
+        assert!(rt; answers(r, kind, e), "other field: {case}");
     }
 }
 
 // No entry was answered yet.
-fn is_silent(rt: &impl Abort, r: &Reader<'_>) {
+fn is_silent(rt: &impl Abort, r: &Reader<'_>, case: &impl Display) {
     for kind in KINDS {
-        assert!(rt; r.field(kind).is_none(), "a field of no entry");
+        assert!(rt; r.field(kind).is_none(), "a field of no entry: {case}");
     }
 }
 
 // The following entry is this one.
-fn reads(rt: &impl Abort, r: &mut Reader<'_>, e: Entry<'_>) -> Result<(), Fail> {
+fn reads(
+    rt: &impl Abort,
+    r: &mut Reader<'_>,
+    e: Entry<'_>,
+    case: &impl Display,
+) -> Result<(), Fail> {
     let read = r.next()?.ok_or("no entry")?;
-    assert!(rt; same(read, e), "other entry");
-    speaks_for(rt, r, e);
+    assert!(rt; same(read, e), "other entry: {case}");
+    speaks_for(rt, r, e, case);
     Ok(())
 }
 
@@ -73,12 +79,12 @@ fn entries_end_to_end(rt: HostRuntime) -> Result<(), Fail> {
     assert_eq!(rt; write(SHORTEST, &mut sheet, third), Ok(80));
     assert_eq!(rt; test(&sheet), Ok(3));
     let mut r = Reader::new(&sheet);
-    is_silent(&rt, &r);
-    reads(&rt, &mut r, SHORTEST)?;
-    reads(&rt, &mut r, LONGEST)?;
-    reads(&rt, &mut r, SHORTEST)?;
+    is_silent(&rt, &r, &"before the first");
+    reads(&rt, &mut r, SHORTEST, &"the first")?;
+    reads(&rt, &mut r, LONGEST, &"the second")?;
+    reads(&rt, &mut r, SHORTEST, &"the third")?;
     has_ended(&rt, &mut r)?;
-    speaks_for(&rt, &r, SHORTEST);
+    speaks_for(&rt, &r, SHORTEST, &"behind the third");
     Ok(())
 }
 
@@ -87,35 +93,47 @@ fn no_bytes(rt: HostRuntime) -> Result<(), Fail> {
     assert_eq!(rt; test(&[]), refused(SheetFault::Cut, 0));
     let mut r = Reader::new(&[]);
     has_ended(&rt, &mut r)?;
-    is_silent(&rt, &r);
+    is_silent(&rt, &r, &"no bytes");
     Ok(())
 }
 
 // The reader refuses the following entry, and refuses it again.
-fn stops(rt: &impl Abort, r: &mut Reader<'_>, fault: SheetFault, place: usize) {
+fn stops(
+    rt: &impl Abort,
+    r: &mut Reader<'_>,
+    fault: SheetFault,
+    place: usize,
+    case: &impl Display,
+) {
     for _ in 0..2 {
         let answer = match r.next() {
             Ok(_) => Ok(0),
             Err(e) => Err(e),
         };
-        assert_eq!(rt; answer, refused(fault, place));
+        assert_eq!(rt; answer, refused(fault, place), "{case}");
     }
 }
 
 // These bytes are refused, as a sheet of their own, and behind a sound entry.
-fn refuses(rt: &impl Abort, heap: Global, bytes: &[u8], fault: SheetFault) -> Result<(), Fail> {
-    assert_eq!(rt; test(bytes), refused(fault, 0));
+fn refuses(
+    rt: &impl Abort,
+    heap: Global,
+    bytes: &[u8],
+    fault: SheetFault,
+    case: &impl Display,
+) -> Result<(), Fail> {
+    assert_eq!(rt; test(bytes), refused(fault, 0), "{case}");
     let mut r = Reader::new(bytes);
-    stops(rt, &mut r, fault, 0);
-    is_silent(rt, &r);
+    stops(rt, &mut r, fault, 0, case);
+    is_silent(rt, &r, case);
     let mut sheet = vec![in heap; 0; 12]?;
     write(SHORTEST, &mut sheet, 0)?;
     sheet.extend_from_slice(bytes)?;
-    assert_eq!(rt; test(&sheet), refused(fault, 12));
+    assert_eq!(rt; test(&sheet), refused(fault, 12), "{case}");
     let mut r = Reader::new(&sheet);
-    reads(rt, &mut r, SHORTEST)?;
-    stops(rt, &mut r, fault, 12);
-    speaks_for(rt, &r, SHORTEST);
+    reads(rt, &mut r, SHORTEST, case)?;
+    stops(rt, &mut r, fault, 12, case);
+    speaks_for(rt, &r, SHORTEST, case);
     Ok(())
 }
 
@@ -125,7 +143,13 @@ fn cuts(rt: HostRuntime) -> Result<(), Fail> {
     let mut bytes = [0; 56];
     assert_eq!(rt; write(LONGEST, &mut bytes, 0), Ok(56));
     for n in 1..56usize {
-        refuses(&rt, heap, &bytes[..n], SheetFault::Cut).note(format_args!("cut to {n} bytes"))?;
+        refuses(
+            &rt,
+            heap,
+            &bytes[..n],
+            SheetFault::Cut,
+            &format_args!("cut to {n} bytes"),
+        )?;
     }
     Ok(())
 }
@@ -168,7 +192,7 @@ fn broken_entries(rt: HostRuntime) -> Result<(), Fail> {
     let heap = rt.alloc();
     for i in 0..26usize {
         let (bytes, fault) = BROKEN[i];
-        refuses(&rt, heap, bytes, fault).note(format_args!("case {i}"))?;
+        refuses(&rt, heap, bytes, fault, &format_args!("case {i}"))?;
     }
     Ok(())
 }

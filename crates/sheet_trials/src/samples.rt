@@ -1,6 +1,7 @@
 // What the tests share: two entries, whether entries are the same, what a refusal is, and whether a buffer is as it was filled.
 use fault::kinds::{Placed, SheetFault};
 use sheet::entry::Entry;
+use std::fmt::Display;
 use std::process::Abort;
 
 pub(crate) const SHORTEST: Entry<'static> = Entry {
@@ -36,10 +37,10 @@ pub(crate) fn refused(fault: SheetFault, place: usize) -> Result<usize, Placed<S
 }
 
 // The bytes outside a part are as they were filled.
-pub(crate) fn kept(rt: &impl Abort, buf: &[u8], from: usize, to: usize) {
+pub(crate) fn kept(rt: &impl Abort, buf: &[u8], from: usize, to: usize, case: &impl Display) {
     for (i, b) in buf.iter().enumerate() {
         if i < from || i >= to {
-            assert_eq!(rt; *b, 0xee, "altered outside the part");
+            assert_eq!(rt; *b, 0xee, "altered outside the part: {case}");
         }
     }
 }

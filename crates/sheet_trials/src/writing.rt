@@ -6,48 +6,81 @@ use sheet::reader::Reader;
 use sheet::whole::test;
 use sheet::writing::{fields, write};
 use std::alloc::Global;
+use std::fmt::Display;
 use std::process::Abort;
 use std::test::Fail;
 
 // An entry is refused for its values, where it has no room too.
-fn refuses(rt: &impl Abort, e: Entry<'_>) -> Result<(), Fail> {
+fn refuses(rt: &impl Abort, e: Entry<'_>, case: &impl Display) {
     let mut buf = [0xee; 64];
-    assert_eq!(rt; write(e, &mut buf, 3), refused(SheetFault::Value, 3));
-    assert_eq!(rt; write(e, &mut buf, 64), refused(SheetFault::Value, 64));
-    assert_eq!(rt; write(e, &mut buf, 65), refused(SheetFault::Value, 65));
-    kept(rt, &buf, 0, 0);
-    Ok(())
+    assert_eq!(rt;
+        write(e, &mut buf, 3),
+        refused(SheetFault::Value, 3),
+        "{case}"
+    );
+    assert_eq!(rt;
+        write(e, &mut buf, 64),
+        refused(SheetFault::Value, 64),
+        "{case}"
+    );
+    assert_eq!(rt;
+        write(e, &mut buf, 65),
+        refused(SheetFault::Value, 65),
+        "{case}"
+    );
+    kept(rt, &buf, 0, 0, case);
 }
 
 // An entry that ends at this place is refused for its room, one byte short and past the buffer.
-fn lacks_room(rt: &impl Abort, heap: Global, e: Entry<'_>, end: usize) -> Result<(), Fail> {
-    assert!(rt; 3 < end);
+fn lacks_room(
+    rt: &impl Abort,
+    heap: Global,
+    e: Entry<'_>,
+    end: usize,
+    case: &impl Display,
+) -> Result<(), Fail> {
+    assert!(rt; 3 < end, "{case}");
     let mut buf = vec![in heap; 0xee; end - 1]?;
-    assert_eq!(rt; write(e, &mut buf, 3), refused(SheetFault::Room, 3));
-    assert_eq!(rt; write(e, &mut buf, end), refused(SheetFault::Room, end));
-    kept(rt, &buf, 0, 0);
+    assert_eq!(rt;
+        write(e, &mut buf, 3),
+        refused(SheetFault::Room, 3),
+        "{case}"
+    );
+    assert_eq!(rt;
+        write(e, &mut buf, end),
+        refused(SheetFault::Room, end),
+        "{case}"
+    );
+    kept(rt, &buf, 0, 0, case);
     Ok(())
 }
 
 // An entry is written at place 3, alters nothing else, and is read back.
-fn accepts(rt: &impl Abort, heap: Global, e: Entry<'_>) -> Result<(), Fail> {
+fn accepts(rt: &impl Abort, heap: Global, e: Entry<'_>, case: &impl Display) -> Result<(), Fail> {
     let mut buf = [0xee; 64];
     let end = write(e, &mut buf, 3)?;
-    assert!(rt; 3 < end && end <= 64);
-    kept(rt, &buf, 3, end);
-    assert_eq!(rt; test(&buf[3..end]), Ok(1));
+    assert!(rt; 3 < end && end <= 64, "{case}");
+    kept(rt, &buf, 3, end, case);
+    assert_eq!(rt; test(&buf[3..end]), Ok(1), "{case}");
     let read = Reader::new(&buf[3..end]).next()?.ok_or("no entry")?;
-    assert!(rt; same(read, e), "read otherwise");
+    assert!(rt; same(read, e), "read otherwise: {case}");
     let mut exact = vec![in heap; 0; end]?;
-    assert_eq!(rt; write(e, &mut exact, 3), Ok(end), "exact room");
-    lacks_room(rt, heap, e, end)
+    assert_eq!(rt; write(e, &mut exact, 3), Ok(end), "exact room: {case}");
+    lacks_room(rt, heap, e, end, case)
 }
 
-fn tried(rt: &impl Abort, heap: Global, e: Entry<'_>, good: bool) -> Result<(), Fail> {
+fn tried(
+    rt: &impl Abort,
+    heap: Global,
+    e: Entry<'_>,
+    good: bool,
+    case: &impl Display,
+) -> Result<(), Fail> {
     if good {
-        accepts(rt, heap, e)
+        accepts(rt, heap, e, case)
     } else {
-        refuses(rt, e)
+        refuses(rt, e, case);
+        Ok(())
     }
 }
 
@@ -55,12 +88,12 @@ fn tried(rt: &impl Abort, heap: Global, e: Entry<'_>, good: bool) -> Result<(), 
 fn bytes_of_entries(rt: HostRuntime) {
     let mut buf = [0xee; 68];
     assert_eq!(rt; write(SHORTEST, &mut buf, 0), Ok(12));
-    assert!(rt; &buf[0..12] == b"\x00\x05DOORSH01\x00\x02");
+    assert!(rt; &buf[0..12] == b"\x00\x05DOORSH01\x00\x02".as_slice());
     assert_eq!(rt; write(LONGEST, &mut buf, 12), Ok(68));
-    assert!(rt; &buf[0..12] == b"\x00\x05DOORSH01\x00\x02");
+    assert!(rt; &buf[0..12] == b"\x00\x05DOORSH01\x00\x02".as_slice());
     assert!(rt;
         &buf[12..68]
-            == b"\x00\x3fROLLER77DOORSH01\x27\x0f\xfb\x02\x58\x20A/1234567890/BCDEFGHIJKLMNOPQRST"
+            == b"\x00\x3fROLLER77DOORSH01\x27\x0f\xfb\x02\x58\x20A/1234567890/BCDEFGHIJKLMNOPQRST".as_slice()
     );
     assert_eq!(rt; fields(SHORTEST), 2);
     assert_eq!(rt; fields(LONGEST), 6);
@@ -70,21 +103,27 @@ fn bytes_of_entries(rt: HostRuntime) {
 fn numbers(rt: HostRuntime) -> Result<(), Fail> {
     let heap = rt.alloc();
     for (count, good) in [(0, false), (1, true), (9999, true), (10000, false)] {
-        tried(&rt, heap, Entry { count, ..SHORTEST }, good).note(format_args!("count {count}"))?;
+        tried(
+            &rt,
+            heap,
+            Entry { count, ..SHORTEST },
+            good,
+            &format_args!("count {count}"),
+        )?;
     }
     for (z, good) in [(-6, false), (-5, true), (40, true), (41, false)] {
         let e = Entry {
             landing: Some(z),
             ..SHORTEST
         };
-        tried(&rt, heap, e, good).note(format_args!("landing {z}"))?;
+        tried(&rt, heap, e, good, &format_args!("landing {z}"))?;
     }
     for (n, good) in [(0, false), (1, true), (600, true), (601, false)] {
         let e = Entry {
             months: Some(n),
             ..SHORTEST
         };
-        tried(&rt, heap, e, good).note(format_args!("months {n}"))?;
+        tried(&rt, heap, e, good, &format_args!("months {n}"))?;
     }
     Ok(())
 }
@@ -118,18 +157,18 @@ fn texts(rt: HostRuntime) -> Result<(), Fail> {
             code: s,
             ..SHORTEST
         };
-        tried(&rt, heap, e, good).note(format_args!("code {i}"))?;
+        tried(&rt, heap, e, good, &format_args!("code {i}"))?;
         let e = Entry {
             parent: Some(s),
             ..SHORTEST
         };
-        tried(&rt, heap, e, good).note(format_args!("parent {i}"))?;
+        tried(&rt, heap, e, good, &format_args!("parent {i}"))?;
         let (s, good) = DRAWINGS[i];
         let e = Entry {
             drawing: Some(s),
             ..SHORTEST
         };
-        tried(&rt, heap, e, good).note(format_args!("drawing {i}"))?;
+        tried(&rt, heap, e, good, &format_args!("drawing {i}"))?;
     }
-    tried(&rt, heap, LONGEST, true)
+    tried(&rt, heap, LONGEST, true, &"the longest")
 }

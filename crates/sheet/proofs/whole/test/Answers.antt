@@ -1,5 +1,5 @@
 use Rattle.std.proofs.Common.{◌<◌, arith}
-use Rattle.std.proofs.ByRecursion.{All-from_get_or}
+use Rattle.std.proofs.lemmas.List.Elements.{All-from_get_or}
 use Rattle.sheet.proofs.Decoding.{start, on, whole, refusal}
 use Rattle.sheet.proofs.Fields.{Octets}
 use Rattle.sheet.proofs.whole.test.Goals as goal
