@@ -40,7 +40,7 @@ fn placed() -> Result<KeyPlace, Fail> {
 // Plays a sealing under the mirror suite.
 fn sealing<'a>(
     heap: Global,
-    headers: &[Stretch<'a>],
+    headers: &[Stretch<'_>],
     bodies: &'a [Stretch<'a>],
     finish: bool,
 ) -> Result<(Played, End), Fail> {
