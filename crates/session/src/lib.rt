@@ -2,7 +2,7 @@
 //
 // A session goes from a key place (`keys`) to a heading, and from there to a sealing or an opening (`types`); its calls are in `heads`,
 // `bodies` and `ends`. `whole` has the calls for whole buffers, which run one session from beginning to end (`straight`). `play` plays any
-// legal list of calls (`script`) and carries the whole promise about what came of it (`logs`, `plays`). Below them are a suite's parts once
+// legal list of calls (`script`) and carries the promise about what came of it (`logs`, `plays`). Below them are a suite's parts once
 // the header is taken (`engine`), the rows (`rows`), the blocks (`blocks`) and the checks (`checks`).
 #![tactic(auto)]
 
