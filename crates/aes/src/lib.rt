@@ -47,8 +47,8 @@ impl Schedule {
         ensures { result ≡ rounds self.now.keys n start }
     {
         let mut s = start;
-        for i in 0..n {
-            s = add_round_key(self.keys[i + 1], round(s));
+        for key in &self.keys[1..n + 1] {
+            s = add_round_key(*key, round(s));
         }
         s
     }
@@ -59,8 +59,8 @@ impl Schedule {
         ensures { result ≡ unrounds self.now.keys n start }
     {
         let mut s = start;
-        for i in (0..n).rev() {
-            s = unround(add_round_key(self.keys[i + 1], s));
+        for key in self.keys[1..n + 1].iter().rev() {
+            s = unround(add_round_key(*key, s));
         }
         s
     }
