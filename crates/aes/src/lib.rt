@@ -32,6 +32,7 @@ impl Schedule {
         let mut keys = [key; 11];
         let mut k = key;
         let mut rc = 1;
+        // Kept with an index: the borrow checker does not cover writing arrays through `&mut keys[1..]`.
         for i in 0..10 {
             let next = next_key(k, rc);
             rc = field::double(rc);

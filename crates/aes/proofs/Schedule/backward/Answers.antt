@@ -3,18 +3,6 @@ use Rattle.aes.specs.Grouping.{unrounds}
 use Rattle.aes.proofs.Rounds.{unrounds_none, left, fewer, back, keys_long}
 use Rattle.aes.proofs.Schedule.backward.Goals as goal
 
-pub loop-key-init : goal.loop-key-init
-loop-key-init c =
-    let ks = c.args.self.now.keys in
-    let l = keys_long ks c.args.n c.args.self.now.count c.requires in
-    let r : c.into_iter-key-iterator.result.iter.rest.now ≡ take (c.args.n + 1 - 1) (drop 1 ks) = search rules in
-    let n : length c.into_iter-key-iterator.result.iter.rest.now ≡ c.args.n = ap length r ∙ l in
-    record {
-      left = r ∙ ap (λ i. take i (drop 1 ks)) (omega arith);
-      few = omega arith;
-      same = ap (λ i. unrounds ks i c.args.start) n;
-    }
-
 pub loop-key-preserved : goal.loop-key-preserved
 loop-key-preserved c =
     let ks = c.args.self.now.keys in
