@@ -1,7 +1,6 @@
 -- One round more, as the loops count, and InvCipher in the groups of the code.
 use Rattle.std.proofs.Common.{◌≡◌, ℕ, zero, suc, ◌+◌, ◌-◌, ◌<◌, ◌≤◌, List, [], ◌∷◌, ◌++◌, length, get_or, take, drop, refl, sym, ap, ◌∙◌, arith, not-suc-le-zero, add-one, sub-one, length-append, length-drop, length-take-le}
 use Rattle.std.proofs.lemmas.List.{get_or-drop, get_or-take, get_or-append-add, take_at, take-take}
-use borrow.Rule.Slice.PartMut.{mid_of}
 use Rattle.aes.specs.State.{add_round_key, mix_columns, shift_rows, sub_bytes, inv_mix_columns, inv_shift_rows, inv_sub_bytes}
 use Rattle.aes.specs.Cipher.{key_at, round, rounds, inv_round, inv_rounds, inv_cipher, inv_cipher4}
 use Rattle.aes.specs.Grouping.{unround, unrounds}

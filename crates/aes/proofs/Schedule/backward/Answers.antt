@@ -1,6 +1,6 @@
-use Rattle.std.proofs.Common.{◌≡◌, ◌+◌, ◌-◌, ◌∙◌, length, take, drop, sym, refl, ap, rules, arith}
+use Rattle.std.proofs.Common.{◌∙◌, sym, ap}
 use Rattle.aes.specs.Grouping.{unrounds}
-use Rattle.aes.proofs.Rounds.{unrounds_none, left, fewer, back, keys_long}
+use Rattle.aes.proofs.Rounds.{unrounds_none, left, fewer, back}
 use Rattle.aes.proofs.Schedule.backward.Goals as goal
 
 pub loop-key-preserved : goal.loop-key-preserved

@@ -25,5 +25,10 @@ loop-i-preserved c =
       placed_more c.args.key c.loop-i.keys c.loop-i.i c.next_key-next.result i.0.count (omega arith) i.3 n,
     )
 
+pub invariant_of-result : goal.invariant_of-result
+invariant_of-result c =
+    let s = c.loop-i.invariant.0 in
+    record { count = s.count; sizes = λ i h. (s.each i h).long; bytes = λ i h j l. block_at _ (s.each i h) j }
+
 pub returns : goal.returns
 returns c = is_schedule c.args.key c.loop-i.keys c.loop-i.invariant.0.count (λ i h. c.loop-i.invariant.3 i (omega arith))

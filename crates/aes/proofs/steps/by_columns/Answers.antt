@@ -1,4 +1,4 @@
-use Rattle.std.proofs.Common.{length, rules}
+use Rattle.std.proofs.Common.{rules}
 use Rattle.aes.proofs.Blocks.{four_columns}
 use Rattle.aes.proofs.steps.by_columns.Goals as goal
 
