@@ -1,7 +1,7 @@
 // Up to N bytes in a row, filled from the front, with no heap.
 #![tactic(auto)]
 
-ghost use Rattle.std.specs.Prelude.{◌≡◌, ℕ, ◌≤◌, List, [], ◌∷◌, ◌++◌, length, take};
+ghost use Rattle.std.specs.Prelude.{◌≡◌, ℕ, ◌≤◌, List, [], ◌∷◌, ◌++◌, length, take, cond, Some, None, ◌==◌};
 
 use std::marker::Model;
 
@@ -36,6 +36,16 @@ impl<const N: usize> Buffer<N> {
         ensures within { length result.now ≤ N }
     {
         &self.bytes[..self.len]
+    }
+
+    // All N bytes, if so many were put in.
+    pub fn full(&self) -> Option<[u8; N]>
+        ensures { result ≡ cond (length self.now == N) (Some self.now) None }
+    {
+        if self.len < N {
+            return None;
+        }
+        Some(self.bytes)
     }
 
     // Puts bytes behind the others, as many as there is room for.
