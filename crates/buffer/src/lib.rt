@@ -1,7 +1,7 @@
 // Up to N bytes in a row, filled from the front, with no heap.
 #![tactic(auto)]
 
-ghost use Rattle.std.specs.Prelude.{◌≡◌, ℕ, ◌≤◌, List, [], ◌∷◌, ◌++◌, length, take, cond, Some, None, ◌==◌};
+ghost use Rattle.std.specs.Prelude.{◌≡◌, ℕ, ◌≤◌, List, [], ◌∷◌, ◌++◌, length, take, ◌<◌, MatchOption};
 
 use std::marker::Model;
 
@@ -40,7 +40,7 @@ impl<const N: usize> Buffer<N> {
 
     // All N bytes, if so many were put in.
     pub fn full(&self) -> Option<[u8; N]>
-        ensures { result ≡ cond (length self.now == N) (Some self.now) None }
+        ensures { MatchOption result (length self.now < N) (λ b. (b ≡ self.now) × (length self.now ≡ N)) }
     {
         if self.len < N {
             return None;
