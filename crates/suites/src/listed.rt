@@ -2,7 +2,10 @@
 ghost use Rattle.std.specs.Prelude.{◌≡◌};
 ghost use Rattle.suites.specs.Listed.{listed};
 
+use crate::mirror::Mirror;
+use crate::shaft::Shaft;
 use fault::kinds::{KeyFault, Placed};
+use suite::Suite;
 
 #[derive(Debug, PartialEq, Eq, Clone, Copy)]
 pub enum Listed {
@@ -17,8 +20,8 @@ impl TryFrom<u8> for Listed {
 
     fn try_from(number: u8) -> Result<Listed, Placed<KeyFault>> {
         match number {
-            1 => Ok(Listed::Shaft),
-            4 => Ok(Listed::Mirror),
+            Shaft::NUMBER => Ok(Listed::Shaft),
+            Mirror::NUMBER => Ok(Listed::Mirror),
             _ => Err(Placed {
                 fault: KeyFault::Suite,
                 place: usize::from(number),
