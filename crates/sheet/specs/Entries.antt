@@ -2,6 +2,7 @@
 use Rattle.std.specs.Prelude.{◌≡◌, ℕ, ◌+◌, ◌/◌, ◌%◌, Bool, true, false, cond, ◌&&◌, ◌||◌, List, [], ◌∷◌, ◌++◌, length, ℤ, pos, is_some, Some, None, Option, ◌==◌, nat_le}
 use Rattle.std.proofs.Common.{of_z}
 use Rattle.std.specs.Int.{w8}
+use Rattle.std.specs.List.{list_all}
 use Rattle.std.specs.Option.{option_map}
 use Rattle.sheet.specs.declared.entry.Entry.{Entry}
 use Rattle.sheet.specs.Table.{row_of, in_row}
@@ -20,8 +21,7 @@ abbrev pub sign : Bool → ℕ → Bool
 sign slash b = (nat_le 65 b && nat_le b 90) || ((nat_le 48 b && nat_le b 57) || (slash && b == 47))
 
 abbrev pub signs : Bool → List ℕ → Bool
-signs slash [] = true
-signs slash (b ∷ bs) = sign slash b && signs slash bs
+signs slash s = list_all (sign slash) s
 
 -- the forms of the fields, by the rows of the table
 abbrev pub CodeForm : ℕ → List ℕ → Type 0

@@ -1,5 +1,6 @@
 -- The table of an entry's fields, a row for each bit of its map, and the rules of the map.
 use Rattle.std.specs.Prelude.{ℕ, zero, suc, ◌+◌, ◌/◌, ◌%◌, ◌^◌, Bool, true, false, not, ◌&&◌, ◌||◌, List, [], ◌∷◌, ℤ, pos, negsuc, ◌==◌, int_le, slice_index_or}
+use Rattle.std.specs.List.{list_all, range_with_len}
 use Rattle.sheet.specs.declared.table.Row.{Row}
 use Rattle.sheet.specs.declared.table.Need.{Need}
 use Rattle.sheet.specs.declared.table.Need.TheVariants.{Required, Allowed, Unknown}
@@ -56,5 +57,4 @@ complete_at m k = stands m k || not (is_required (row_of k).need)
 
 -- the test passes at each number below k
 unfoldable pub all_below : (ℕ → Bool) → ℕ → Bool
-all_below t zero = true
-all_below t (suc k) = all_below t k && t k
+all_below t k = list_all t (range_with_len 0 k)

@@ -17,12 +17,7 @@ fn is_sign(slash: bool, b: u8) -> bool
 pub(crate) fn are_signs(slash: bool, part: &[u8]) -> bool
     ensures { result ≡ signs slash part.now }
 {
-    for b in part {
-        if !is_sign(slash, *b) {
-            return false;
-        }
-    }
-    true
+    part.iter().all(|b| is_sign(slash, *b))
 }
 
 fn code_ok(k: usize, s: &[u8]) -> bool
@@ -32,34 +27,8 @@ fn code_ok(k: usize, s: &[u8]) -> bool
     s.len() == row_of(k).width && are_signs(false, s)
 }
 
-fn parent_ok(parent: Option<&[u8]>) -> bool
-    ensures { result ≡ held_test (code_test 1) (option_map (λ s. s.now) parent.entry) }
-{
-    match parent {
-        Some(s) => code_ok(1, s),
-        None => true,
-    }
-}
-
-fn landing_ok(landing: Option<i8>) -> bool
-    ensures { result ≡ held_test (in_row 3) landing }
-{
-    match landing {
-        Some(z) => in_row(3, z as i32),
-        None => true,
-    }
-}
-
-fn months_ok(months: Option<u16>) -> bool
-    ensures { result ≡ held_test (λ n. in_row 4 (pos n)) months }
-{
-    match months {
-        Some(n) => in_row(4, n as i32),
-        None => true,
-    }
-}
-
-fn text_ok(s: &[u8]) -> bool
+// A drawing's length and signs.
+fn drawing_ok(s: &[u8]) -> bool
     ensures { result ≡ drawing_test s.now }
 {
     match i32::try_from(s.len()) {
@@ -68,23 +37,14 @@ fn text_ok(s: &[u8]) -> bool
     }
 }
 
-fn drawing_ok(drawing: Option<&[u8]>) -> bool
-    ensures { result ≡ held_test drawing_test (option_map (λ s. s.now) drawing.entry) }
-{
-    match drawing {
-        Some(s) => text_ok(s),
-        None => true,
-    }
-}
-
 // Whether every field has its form.
 pub fn is_good(e: Entry<'_>) -> bool
     ensures { result ≡ good_test (item_of e.entry) }
 {
     code_ok(0, e.code)
-        && parent_ok(e.parent)
-        && in_row(2, e.count as i32)
-        && landing_ok(e.landing)
-        && months_ok(e.months)
-        && drawing_ok(e.drawing)
+        && e.parent.is_none_or(|s| code_ok(1, s))
+        && in_row(2, i32::from(e.count))
+        && e.landing.is_none_or(|z| in_row(3, i32::from(z)))
+        && e.months.is_none_or(|n| in_row(4, i32::from(n)))
+        && e.drawing.is_none_or(drawing_ok)
 }
