@@ -20,8 +20,8 @@ pub enum Field<'a> {
     Drawing(&'a [u8]),
 }
 
-// The kind of a field that is asked for.
-#[derive(Clone, Copy)]
+// The kinds of fields, in the order of their bits in the map.
+#[derive(Clone, Copy, PartialEq, Eq)]
 pub enum Kind {
     Code,
     Parent,

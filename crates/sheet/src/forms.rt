@@ -1,11 +1,9 @@
 // The tests of an entry's values.
-ghost use Rattle.std.specs.Prelude.{◌≡◌, ◌<◌, true, false, pos};
-ghost use Rattle.std.specs.Option.{option_map};
-ghost use Rattle.sheet.specs.Table.{in_row};
-ghost use Rattle.sheet.specs.Entries.{code_test, drawing_test, good_test, held_test, item_of, sign, signs};
+ghost use Rattle.std.specs.Prelude.{◌≡◌};
+ghost use Rattle.sheet.specs.Table.{bit_of};
+ghost use Rattle.sheet.specs.Entries.{code_test, drawing_test, good_test, item_of, sign, signs};
 
-use crate::entry::Entry;
-use crate::table::{in_row, row_of};
+use crate::entry::{Entry, Kind};
 
 // A to Z, 0 to 9, and a slash where one may stand.
 fn is_sign(slash: bool, b: u8) -> bool
@@ -20,11 +18,10 @@ pub(crate) fn are_signs(slash: bool, part: &[u8]) -> bool
     part.iter().all(|b| is_sign(slash, *b))
 }
 
-fn code_ok(k: usize, s: &[u8]) -> bool
-    requires { k < 16 }
-    ensures { result ≡ code_test k s.now }
+fn code_ok(kind: Kind, s: &[u8]) -> bool
+    ensures { result ≡ code_test (bit_of kind) s.now }
 {
-    s.len() == row_of(k).width && are_signs(false, s)
+    s.len() == kind.row().width && are_signs(false, s)
 }
 
 // A drawing's length and signs.
@@ -32,7 +29,7 @@ fn drawing_ok(s: &[u8]) -> bool
     ensures { result ≡ drawing_test s.now }
 {
     match i32::try_from(s.len()) {
-        Ok(n) => in_row(5, n) && are_signs(true, s),
+        Ok(n) => Kind::Drawing.admits(n) && are_signs(true, s),
         Err(_) => false,
     }
 }
@@ -41,10 +38,10 @@ fn drawing_ok(s: &[u8]) -> bool
 pub fn is_good(e: Entry<'_>) -> bool
     ensures { result ≡ good_test (item_of e.entry) }
 {
-    code_ok(0, e.code)
-        && e.parent.is_none_or(|s| code_ok(1, s))
-        && in_row(2, i32::from(e.count))
-        && e.landing.is_none_or(|z| in_row(3, i32::from(z)))
-        && e.months.is_none_or(|n| in_row(4, i32::from(n)))
+    code_ok(Kind::Code, e.code)
+        && e.parent.is_none_or(|s| code_ok(Kind::Parent, s))
+        && Kind::Count.admits(i32::from(e.count))
+        && e.landing.is_none_or(|z| Kind::Landing.admits(i32::from(z)))
+        && e.months.is_none_or(|n| Kind::Months.admits(i32::from(n)))
         && e.drawing.is_none_or(drawing_ok)
 }

@@ -1,31 +1,38 @@
 // The map of an entry: which of its bits stand, and whether they may.
 ghost use Rattle.std.specs.Prelude.{◌≡◌, ◌<◌};
-ghost use Rattle.sheet.specs.Table.{all_below, complete_at, known_at, stands as Stands};
+ghost use Rattle.sheet.specs.Table.{all_below, bit_of, complete_at, known_at, stands as Stands};
 ghost use Rattle.sheet.specs.Entries.{item_map, item_of};
 
-use crate::entry::Entry;
-use crate::table::{Need, row_of};
+use crate::entry::{Entry, Kind};
+use crate::table::{Need, row_at};
 
 // Whether bit k of the map stands.
-pub(crate) fn stands(map: u16, k: u32) -> bool
+fn stands(map: u16, k: u32) -> bool
     requires { k < 16 }
     ensures { result ≡ Stands map k }
 {
     (map >> k) & 1 == 1
 }
 
+// Whether the bit of a kind stands.
+pub(crate) fn has(map: u16, kind: Kind) -> bool
+    ensures { result ≡ Stands map (bit_of kind) }
+{
+    stands(map, kind.bit())
+}
+
 fn known_at(map: u16, k: u32) -> bool
     requires { k < 16 }
     ensures { result ≡ known_at map k }
 {
-    !(stands(map, k) && row_of(k as usize).need == Need::Unknown)
+    !(stands(map, k) && row_at(k as usize).need == Need::Unknown)
 }
 
 fn complete_at(map: u16, k: u32) -> bool
     requires { k < 16 }
     ensures { result ≡ complete_at map k }
 {
-    stands(map, k) || row_of(k as usize).need != Need::Required
+    stands(map, k) || row_at(k as usize).need != Need::Required
 }
 
 // No bit stands that may not.

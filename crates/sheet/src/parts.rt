@@ -1,15 +1,14 @@
 // The fields of an entry, read one by one at a place of the sheet. Each answers its value and the place behind it.
 ghost use Rattle.std.specs.Prelude.{◌≡◌, ◌+◌, ◌-◌, ◌<◌, ◌≤◌, length, drop, IfOk, MatchResult};
 ghost use Rattle.std.specs.Option.{option_map};
-ghost use Rattle.sheet.specs.Table.{row_of};
+ghost use Rattle.sheet.specs.Table.{bit_of, row_of};
 ghost use Rattle.sheet.specs.Entries.{Held, item_of};
 ghost use Rattle.sheet.specs.Reading.{fault as refused, got, read_code, read_drawing, read_held, read_item, read_landing, read_map, read_number, some};
 ghost use Rattle.sheet.specs.Calls.{InPlace, Lies, Told};
 
-use crate::entry::Entry;
+use crate::entry::{Entry, Kind};
 use crate::forms::are_signs;
-use crate::map::{all_required, only_known, stands};
-use crate::table::{in_row, row_of};
+use crate::map::{all_required, has, only_known};
 use fault::kinds::SheetFault;
 
 // The n bytes at a place.
@@ -23,12 +22,12 @@ fn part(sheet: &[u8], at: usize, n: usize) -> Result<&[u8], SheetFault>
     Ok(&sheet[at..at + n])
 }
 
-fn code_at(k: usize, sheet: &[u8], at: usize) -> Result<(&[u8], usize), SheetFault>
-    requires { (at ≤ length sheet.now) × (k < 16) }
-    ensures told { Told sheet.now (λ s. s.now) (read_code k (drop at sheet.now)) result }
-    ensures lies { IfOk result (λ x. Lies sheet.entry.ref_ptr at x.0 × (x.1 ≡ at + (row_of k).width)) }
+fn code_at(kind: Kind, sheet: &[u8], at: usize) -> Result<(&[u8], usize), SheetFault>
+    requires { at ≤ length sheet.now }
+    ensures told { Told sheet.now (λ s. s.now) (read_code (bit_of kind) (drop at sheet.now)) result }
+    ensures lies { IfOk result (λ x. Lies sheet.entry.ref_ptr at x.0 × (x.1 ≡ at + (row_of (bit_of kind)).width)) }
 {
-    let width = row_of(k).width;
+    let width = kind.row().width;
     let s = part(sheet, at, width)?;
     if !are_signs(false, s) {
         return Err(SheetFault::Value);
@@ -36,14 +35,14 @@ fn code_at(k: usize, sheet: &[u8], at: usize) -> Result<(&[u8], usize), SheetFau
     Ok((s, at + width))
 }
 
-fn number_at(k: usize, sheet: &[u8], at: usize) -> Result<(u16, usize), SheetFault>
-    requires { (at ≤ length sheet.now) × ((k < 16) × ((row_of k).width ≡ 2)) }
-    ensures { Told sheet.now (λ n. n) (read_number k (drop at sheet.now)) result }
+fn number_at(kind: Kind, sheet: &[u8], at: usize) -> Result<(u16, usize), SheetFault>
+    requires { (at ≤ length sheet.now) × ((row_of (bit_of kind)).width ≡ 2) }
+    ensures { Told sheet.now (λ n. n) (read_number (bit_of kind) (drop at sheet.now)) result }
 {
-    let width = row_of(k).width;
+    let width = kind.row().width;
     let s = part(sheet, at, width)?;
     let n = u16::from_be_bytes([s[0], s[1]]);
-    if !in_row(k, n as i32) {
+    if !kind.admits(i32::from(n)) {
         return Err(SheetFault::Value);
     }
     Ok((n, at + width))
@@ -53,10 +52,10 @@ fn landing_at(sheet: &[u8], at: usize) -> Result<(i8, usize), SheetFault>
     requires { at ≤ length sheet.now }
     ensures { Told sheet.now (λ z. z) (read_landing (drop at sheet.now)) result }
 {
-    let width = row_of(3).width;
+    let width = Kind::Landing.row().width;
     let s = part(sheet, at, width)?;
     let z = s[0].cast_signed();
-    if !in_row(3, z as i32) {
+    if !Kind::Landing.admits(i32::from(z)) {
         return Err(SheetFault::Value);
     }
     Ok((z, at + width))
@@ -67,17 +66,17 @@ fn drawing_at(sheet: &[u8], at: usize) -> Result<(&[u8], usize), SheetFault>
     ensures told { Told sheet.now (λ s. s.now) (read_drawing (drop at sheet.now)) result }
     ensures lies { IfOk result (λ x. Lies sheet.entry.ref_ptr (x.1 - length x.0.now) x.0) }
 {
-    let width = row_of(5).width;
+    let width = Kind::Drawing.row().width;
     let head = part(sheet, at, width)?;
     let n = head[0];
-    if !in_row(5, n as i32) {
+    if !Kind::Drawing.admits(i32::from(n)) {
         return Err(SheetFault::Value);
     }
-    let s = part(sheet, at + width, n as usize)?;
+    let s = part(sheet, at + width, usize::from(n))?;
     if !are_signs(true, s) {
         return Err(SheetFault::Value);
     }
-    Ok((s, at + width + n as usize))
+    Ok((s, at + width + usize::from(n)))
 }
 
 fn parent_at(on: bool, sheet: &[u8], at: usize) -> Result<(Option<&[u8]>, usize), SheetFault>
@@ -88,7 +87,7 @@ fn parent_at(on: bool, sheet: &[u8], at: usize) -> Result<(Option<&[u8]>, usize)
     if !on {
         return Ok((None, at));
     }
-    let (s, next) = code_at(1, sheet, at)?;
+    let (s, next) = code_at(Kind::Parent, sheet, at)?;
     Ok((Some(s), next))
 }
 
@@ -110,7 +109,7 @@ fn months_at(on: bool, sheet: &[u8], at: usize) -> Result<(Option<u16>, usize), 
     if !on {
         return Ok((None, at));
     }
-    let (n, next) = number_at(4, sheet, at)?;
+    let (n, next) = number_at(Kind::Months, sheet, at)?;
     Ok((Some(n), next))
 }
 
@@ -151,12 +150,12 @@ pub(crate) fn entry_at(sheet: &[u8], at: usize) -> Result<(Entry<'_>, usize), Sh
     ensures lies { IfOk result (λ x. InPlace sheet.entry.ref_ptr at x.1 x.0) }
 {
     let (map, p0) = map_at(sheet, at)?;
-    let (code, p1) = code_at(0, sheet, p0)?;
-    let (parent, p2) = parent_at(stands(map, 1), sheet, p1)?;
-    let (count, p3) = number_at(2, sheet, p2)?;
-    let (landing, p4) = landing_if(stands(map, 3), sheet, p3)?;
-    let (months, p5) = months_at(stands(map, 4), sheet, p4)?;
-    let (drawing, p6) = drawing_if(stands(map, 5), sheet, p5)?;
+    let (code, p1) = code_at(Kind::Code, sheet, p0)?;
+    let (parent, p2) = parent_at(has(map, Kind::Parent), sheet, p1)?;
+    let (count, p3) = number_at(Kind::Count, sheet, p2)?;
+    let (landing, p4) = landing_if(has(map, Kind::Landing), sheet, p3)?;
+    let (months, p5) = months_at(has(map, Kind::Months), sheet, p4)?;
+    let (drawing, p6) = drawing_if(has(map, Kind::Drawing), sheet, p5)?;
     let entry = Entry {
         code,
         parent,

@@ -11,7 +11,7 @@ use Rattle.sheet.proofs.parts.entry_at.Goals as goal
 
 pub number_at-requires : goal.number_at-requires
 unfolding row_of
-number_at-requires c = (c.in_ok-parent.ensures.told.1, (omega arith, refl))
+number_at-requires c = (c.in_ok-parent.ensures.told.1, refl)
 
 pub returns : goal.returns
 unfolding row_of
