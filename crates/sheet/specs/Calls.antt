@@ -1,5 +1,5 @@
 -- What the sheet's calls do: which answer or refusal they give, and what the buffer then holds.
-use Rattle.std.specs.Prelude.{◌≡◌, ℕ, ◌+◌, ◌-◌, ◌<◌, ◌≤◌, ◌⊎◌, List, [], ◌∷◌, ◌++◌, length, take, drop, Some, None, Ok, Err, Option, Result}
+use Rattle.std.specs.Prelude.{◌≡◌, ℕ, ◌+◌, ◌-◌, ◌<◌, ◌≤◌, ◌⊎◌, Bool, true, false, List, [], ◌∷◌, ◌++◌, length, take, drop, Some, None, Ok, Err, Option, Result}
 use Rattle.std.specs.Borrow.{Bor}
 use Rattle.std.specs.Option.{option_map}
 use Rattle.fault.specs.declared.kinds.SheetFault.{SheetFault}
@@ -18,10 +18,20 @@ abbrev pub Wrote : (old new : List ℕ) (at : ℕ) (e : Item) → Result ℕ (Pl
 Wrote old new at e (Ok q) = Good e × (q ≡ at + length (bytes e)) × (q ≤ length old) × (new ≡ take at old ++ (bytes e ++ drop q old))
 Wrote old new at e (Err f) = (new ≡ old) × (f.place ≡ at) × (((f.fault ≡ Value) × (Good e → ⊥)) ⊎ ((f.fault ≡ Room) × Good e × (length old < at + length (bytes e))))
 
--- What a function that reads at a place of the sheet answers: the value, and where the next begins.
-abbrev pub Told : {T X : Type 0} → List ℕ → (T → X) → Read X → Result (T × ℕ) SheetFault → Type 0
-Told sheet f o (Ok x) = (o ≡ got (f x.0) (drop x.1 sheet)) × (x.1 ≤ length sheet)
-Told sheet f o (Err e) = o ≡ fault e
+-- What a function that reads from the front of some bytes answers: the value, and the bytes behind it.
+abbrev pub Told : {T X : Type 0} → (T → X) → Read X → Result (T × Bor (List ℕ)) SheetFault → Type 0
+Told f o (Ok x) = o ≡ got (f x.0) x.1.now
+Told f o (Err e) = o ≡ fault e
+
+-- The same of a field that is read only if its bit stands, where P says what the reading of such a field may answer.
+abbrev pub HeldOr : {T : Type 0} → Bool → Bor (List ℕ) → (Result (T × Bor (List ℕ)) SheetFault → Type 0) → Result (Option T × Bor (List ℕ)) SheetFault → Type 0
+HeldOr false b P r = r ≡ Ok (None, b)
+HeldOr true b P (Ok (None, rest)) = ⊥
+HeldOr true b P (Ok (Some a, rest)) = P (Ok (a, rest))
+HeldOr true b P (Err e) = P (Err e)
+
+pub record HeldTold {T : Type 0} (on : Bool) (b : Bor (List ℕ)) (P : Result (T × Bor (List ℕ)) SheetFault → Type 0) (r : Result (Option T × Bor (List ℕ)) SheetFault) : Type 0 where
+  pub told : HeldOr on b P r
 
 -- The next call of a reader at place p of the sheet s, which is at place q after it: the end exactly at the sheet's end, or the entry that
 -- stands at p, or the refusal of what stands there, which leaves the place.
@@ -33,6 +43,12 @@ Answered s p q (Err f) = (read_item (drop p s) ≡ fault f.fault) × (p < length
 -- s is the part of a sheet from a place on; b is where the sheet stands in memory, a block and an offset in it
 abbrev pub Lies : (b : ℕ × ℕ) (n : ℕ) → Bor (List ℕ) → Type 0
 Lies b n s = s.ref_ptr ≡ (b.0, b.1 + n)
+
+-- the bytes r are the end of the bytes b, in memory too
+pub record Ends (b r : Bor (List ℕ)) : Type 0 where
+  pub long : length r.now ≤ length b.now
+  pub is : r.now ≡ drop (length b.now - length r.now) b.now
+  pub lies : Lies b.ref_ptr (length b.now - length r.now) r
 
 -- The codes and the drawing of an entry that stands from p to q are those very parts of the sheet.
 pub record InPlace (b : ℕ × ℕ) (p q : ℕ) (e : Entry) : Type 0 where

@@ -4,7 +4,7 @@ ghost use Rattle.sheet.specs.Entries.{AllGood, Item, sheet_of};
 ghost use Rattle.sheet.specs.Calls.{Answered, AnsweredInPlace, Follows, last_field, last_of};
 
 use crate::entry::{Entry, Field, Kind};
-use crate::parts::entry_at;
+use crate::parts::read_entry;
 use fault::kinds::{Placed, SheetFault};
 
 // A sheet, a place in it, and the entry last answered.
@@ -41,9 +41,9 @@ impl<'a> Reader<'a> {
         if place == sheet.len() {
             return Ok(None);
         }
-        match entry_at(sheet, place) {
-            Ok((entry, next)) => {
-                self.place = next;
+        match read_entry(&sheet[place..]) {
+            Ok((entry, rest)) => {
+                self.place = sheet.len() - rest.len();
                 self.last = Some(entry);
                 Ok(Some(entry))
             }
