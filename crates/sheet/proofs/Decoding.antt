@@ -2,12 +2,11 @@
 use Rattle.std.proofs.Common.{◌≡◌, ℕ, ◌+◌, ◌<◌, ◌≤◌, Bool, List, [], ◌∷◌, ◌++◌, length, drop, is_some, Some, None, Ok, Option, sym, refl, ap, ◌∙◌, subst, append_assoc, append-nil, arith, length-append, length-drop}
 use Rattle.std.proofs.lemmas.List.{drop_all, length_push}
 use Rattle.std.proofs.lemmas.List.Elements.{All-drop}
-use Rattle.sheet.specs.declared.entry.Entry.{Entry}
 use Rattle.fault.specs.declared.kinds.SheetFault.{SheetFault}
 use Rattle.fault.specs.declared.kinds.SheetFault.TheVariants.{Cut}
 use Rattle.fault.specs.declared.kinds.Placed.{Placed}
 use Rattle.sheet.specs.Table.{stands}
-use Rattle.sheet.specs.Entries.{Item, Good, Held, two, one, text, counted, held, item_map, map_of, bytes, sheet_of, AllGood, item_of}
+use Rattle.sheet.specs.Entries.{Item, Good, Held, two, one, text, counted, held, item_map, map_of, bytes, sheet_of, AllGood, Lent, item_of}
 use Rattle.sheet.specs.Reading.{Read, got, fault, next, read_code, read_number, read_landing, read_drawing, read_held, read_map, item, read_fields, read_item}
 use Rattle.sheet.specs.Calls.{Follows, Holds, Broken}
 use Rattle.sheet.specs.Laws.{ReadingLaw, UniqueLaw}
@@ -118,7 +117,7 @@ pub ends : (s : List ℕ) (p : ℕ) (es : List Item) → p ≡ length s → drop
 ends s p [] h q = q
 ends s p (e ∷ es) h q = none_some _ _ (sym (drop_all p s (omega arith)) ∙ q)
 
-pub goes_on : (s : List ℕ) (p q : ℕ) (x : Entry) (es : List Item) → p < length s → AllGood es → drop p s ≡ sheet_of es → read_item (drop p s) ≡ got (item_of x) (drop q s) → Follows s q es (Ok (Some x))
+pub goes_on : (s : List ℕ) (p q : ℕ) (x : Lent) (es : List Item) → p < length s → AllGood es → drop p s ≡ sheet_of es → read_item (drop p s) ≡ got (item_of x) (drop q s) → Follows s q es (Ok (Some x))
 goes_on s p q x [] l g e r = let n = ap length e in let m = length-drop p s in omega arith
 goes_on s p q x (d ∷ ds) l g e r = got_same (item_of x) d (drop q s) (sheet_of ds) (sym r ∙ ap read_item e ∙ back d (sheet_of ds) g.0)
 

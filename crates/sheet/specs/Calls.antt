@@ -10,7 +10,7 @@ use Rattle.sheet.specs.declared.entry.Field.{Field}
 use Rattle.sheet.specs.declared.entry.Field.TheVariants.{Code, Parent, Count, Landing, Months, Drawing}
 use Rattle.sheet.specs.declared.entry.Kind.{Kind}
 use Rattle.sheet.specs.declared.entry.Kind.TheVariants as kind
-use Rattle.sheet.specs.Entries.{Item, Held, Good, AllGood, bytes, sheet_of, item_of}
+use Rattle.sheet.specs.Entries.{Item, Held, Good, AllGood, bytes, sheet_of, Lent, item_of}
 use Rattle.sheet.specs.Reading.{Read, got, fault, read_item}
 
 -- Writing the entry e into the buffer `old` at a place; q is where the next would begin. Values are tested before room.
@@ -35,7 +35,7 @@ pub record HeldTold {T : Type 0} (on : Bool) (b : Bor (List ℕ)) (P : Result (T
 
 -- The next call of a reader at place p of the sheet s, which is at place q after it: the end exactly at the sheet's end, or the entry that
 -- stands at p, or the refusal of what stands there, which leaves the place.
-abbrev pub Answered : (s : List ℕ) (p q : ℕ) → Result (Option Entry) (Placed SheetFault) → Type 0
+abbrev pub Answered : (s : List ℕ) (p q : ℕ) → Result (Option Lent) (Placed SheetFault) → Type 0
 Answered s p q (Ok None) = (p ≡ length s) × (q ≡ p)
 Answered s p q (Ok (Some e)) = (read_item (drop p s) ≡ got (item_of e) (drop q s)) × (p < length s) × (p < q) × (q ≤ length s)
 Answered s p q (Err f) = (read_item (drop p s) ≡ fault f.fault) × (p < length s) × (f.place ≡ p) × (q ≡ p)
@@ -51,18 +51,18 @@ pub record Ends (b r : Bor (List ℕ)) : Type 0 where
   pub lies : Lies b.ref_ptr (length b.now - length r.now) r
 
 -- The codes and the drawing of an entry that stands from p to q are those very parts of the sheet.
-pub record InPlace (b : ℕ × ℕ) (p q : ℕ) (e : Entry) : Type 0 where
+pub record InPlace (b : ℕ × ℕ) (p q : ℕ) (e : Lent) : Type 0 where
   pub code : Lies b (p + 2) e.code
   pub parent : Held (Lies b (p + 10)) e.parent
   pub drawing : Held (λ s. Lies b (q - length s.now) s) e.drawing
 
-abbrev pub AnsweredInPlace : (b : ℕ × ℕ) (p q : ℕ) → Result (Option Entry) (Placed SheetFault) → Type 0
+abbrev pub AnsweredInPlace : (b : ℕ × ℕ) (p q : ℕ) → Result (Option Lent) (Placed SheetFault) → Type 0
 AnsweredInPlace b p q (Ok None) = Unit {0}
 AnsweredInPlace b p q (Ok (Some e)) = InPlace b p q e
 AnsweredInPlace b p q (Err f) = Unit {0}
 
 -- Where good entries follow, the first of them is answered, and the others follow then.
-abbrev pub Follows : (s : List ℕ) (q : ℕ) → List Item → Result (Option Entry) (Placed SheetFault) → Type 0
+abbrev pub Follows : (s : List ℕ) (q : ℕ) → List Item → Result (Option Lent) (Placed SheetFault) → Type 0
 Follows s q [] (Ok None) = drop q s ≡ []
 Follows s q [] (Ok (Some x)) = ⊥
 Follows s q (e ∷ es) (Ok None) = ⊥
@@ -70,13 +70,13 @@ Follows s q (e ∷ es) (Ok (Some x)) = (item_of x ≡ e) × (drop q s ≡ sheet_
 Follows s q es (Err f) = ⊥
 
 -- the entry last answered, after one more next call
-abbrev pub last_of : Option Entry → Result (Option Entry) (Placed SheetFault) → Option Entry
+abbrev pub last_of : Option Lent → Result (Option Lent) (Placed SheetFault) → Option Lent
 last_of old (Ok None) = old
 last_of old (Ok (Some e)) = Some e
 last_of old (Err f) = old
 
 -- a field of an entry, or absent; absent also where no entry was answered
-abbrev pub field_of : Kind → Entry → Option Field
+abbrev pub field_of : {T : Type 0} → Kind → Entry T → Option (Field T)
 field_of kind.Code e = Some (Code e.code)
 field_of kind.Parent e = option_map Parent e.parent
 field_of kind.Count e = Some (Count e.count)
@@ -84,7 +84,7 @@ field_of kind.Landing e = option_map Landing e.landing
 field_of kind.Months e = option_map Months e.months
 field_of kind.Drawing e = option_map Drawing e.drawing
 
-abbrev pub last_field : Kind → Option Entry → Option Field
+abbrev pub last_field : {T : Type 0} → Kind → Option (Entry T) → Option (Field T)
 last_field k None = None
 last_field k (Some e) = field_of k e
 

@@ -35,7 +35,7 @@ fn drawing_ok(s: &[u8]) -> bool
 }
 
 // Whether every field has its form.
-pub fn is_good(e: Entry<'_>) -> bool
+pub fn is_good(e: Entry<&[u8]>) -> bool
     ensures { result ≡ good_test (item_of e.entry) }
 {
     code_ok(Kind::Code, e.code)

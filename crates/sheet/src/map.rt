@@ -50,7 +50,7 @@ pub(crate) fn all_required(map: u16) -> bool
 }
 
 // The map of an entry.
-pub(crate) fn map_of(e: Entry<'_>) -> u16
+pub(crate) fn map_of(e: Entry<&[u8]>) -> u16
     ensures { result ≡ item_map (item_of e.entry) }
 {
     5 + (if e.parent.is_some() { 2 } else { 0 })

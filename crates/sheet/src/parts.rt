@@ -111,7 +111,7 @@ fn read_map(bytes: &[u8]) -> Result<(u16, &[u8]), SheetFault>
 }
 
 // An entry.
-pub(crate) fn read_entry(bytes: &[u8]) -> Result<(Entry<'_>, &[u8]), SheetFault>
+pub(crate) fn read_entry(bytes: &[u8]) -> Result<(Entry<&[u8]>, &[u8]), SheetFault>
     ensures told { Told item_of (read_item bytes.now) result }
     ensures lies { IfOk result (λ x. Ends bytes.entry x.1 × (length x.1.now < length bytes.now) × ((m : ℕ × ℕ) (n : ℕ) → Lies m n bytes.entry → InPlace m n (n + (length bytes.now - length x.1.now)) x.0)) }
 {

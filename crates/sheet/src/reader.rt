@@ -12,7 +12,7 @@ use fault::kinds::{Placed, SheetFault};
 pub struct Reader<'a> {
     sheet: &'a [u8],
     place: usize,
-    last: Option<Entry<'a>>,
+    last: Option<Entry<&'a [u8]>>,
     ghost within: { place ≤ length sheet.now },
 }
 
@@ -29,7 +29,7 @@ impl<'a> Reader<'a> {
     }
 
     // The following entry, or `None` at the sheet's end. A refusal leaves the reader as it was.
-    pub fn next(&mut self) -> Result<Option<Entry<'a>>, Placed<SheetFault>>
+    pub fn next(&mut self) -> Result<Option<Entry<&'a [u8]>>, Placed<SheetFault>>
         ensures answer { Answered self.old.sheet.now self.old.place self.new.place result }
         ensures follows { (es : List Item) → AllGood es → drop self.old.place self.old.sheet.now ≡ sheet_of es → Follows self.old.sheet.now self.new.place es result }
         ensures last { self.new.last ≡ last_of self.old.last result }
@@ -52,7 +52,7 @@ impl<'a> Reader<'a> {
     }
 
     // A field of the entry last answered, or `None` where it has no such field or none was answered yet.
-    pub fn field(&self, kind: Kind) -> Option<Field<'a>>
+    pub fn field(&self, kind: Kind) -> Option<Field<&'a [u8]>>
         ensures { result ≡ last_field kind self.now.last }
     {
         let e = self.last?;

@@ -1,5 +1,5 @@
 // Reading of entries: field by field, several end to end, and every refusal, with its place and what is answered after it.
-use crate::samples::{LONGEST, SHORTEST, refused, same};
+use crate::samples::{LONGEST, SHORTEST, refused};
 use fault::kinds::SheetFault;
 use sheet::entry::{Entry, Field, Kind};
 use sheet::reader::Reader;
@@ -20,24 +20,20 @@ const KINDS: [Kind; 6] = [
 ];
 
 // Whether the reader answers this field as the entry has it.
-fn answers(r: &Reader<'_>, kind: Kind, e: Entry<'_>) -> bool {
-    match (kind, r.field(kind)) {
-        (Kind::Code, Some(Field::Code(s))) => s == e.code,
-        (Kind::Parent, Some(Field::Parent(s))) => e.parent == Some(s),
-        (Kind::Count, Some(Field::Count(n))) => n == e.count,
-        (Kind::Landing, Some(Field::Landing(z))) => e.landing == Some(z),
-        (Kind::Months, Some(Field::Months(n))) => e.months == Some(n),
-        (Kind::Drawing, Some(Field::Drawing(s))) => e.drawing == Some(s),
-        (Kind::Parent, None) => e.parent.is_none(),
-        (Kind::Landing, None) => e.landing.is_none(),
-        (Kind::Months, None) => e.months.is_none(),
-        (Kind::Drawing, None) => e.drawing.is_none(),
-        _ => false,
-    }
+fn answers(r: &Reader<'_>, kind: Kind, e: Entry<&[u8]>) -> bool {
+    let field = match kind {
+        Kind::Code => Some(Field::Code(e.code)),
+        Kind::Parent => e.parent.map(Field::Parent),
+        Kind::Count => Some(Field::Count(e.count)),
+        Kind::Landing => e.landing.map(Field::Landing),
+        Kind::Months => e.months.map(Field::Months),
+        Kind::Drawing => e.drawing.map(Field::Drawing),
+    };
+    r.field(kind) == field
 }
 
 // The reader speaks for this entry.
-fn speaks_for(rt: &impl Abort, r: &Reader<'_>, e: Entry<'_>, case: &impl Display) {
+fn speaks_for(rt: &impl Abort, r: &Reader<'_>, e: Entry<&[u8]>, case: &impl Display) {
     for kind in KINDS {
         assert!(rt; answers(r, kind, e), "other field: {case}");
     }
@@ -54,11 +50,11 @@ fn is_silent(rt: &impl Abort, r: &Reader<'_>, case: &impl Display) {
 fn reads(
     rt: &impl Abort,
     r: &mut Reader<'_>,
-    e: Entry<'_>,
+    e: Entry<&[u8]>,
     case: &impl Display,
 ) -> Result<(), Fail> {
     let read = r.next()?.ok_or("no entry")?;
-    assert!(rt; same(read, e), "other entry: {case}");
+    assert!(rt; read == e, "other entry: {case}");
     speaks_for(rt, r, e, case);
     Ok(())
 }
