@@ -21,15 +21,19 @@ const KINDS: [Kind; 6] = [
 
 // Whether the reader answers this field as the entry has it.
 fn answers(r: &Reader<'_>, kind: Kind, e: Entry<&[u8]>) -> bool {
-    let field = match kind {
-        Kind::Code => Some(Field::Code(e.code)),
-        Kind::Parent => e.parent.map(Field::Parent),
-        Kind::Count => Some(Field::Count(e.count)),
-        Kind::Landing => e.landing.map(Field::Landing),
-        Kind::Months => e.months.map(Field::Months),
-        Kind::Drawing => e.drawing.map(Field::Drawing),
-    };
-    r.field(kind) == field
+    match (kind, r.field(kind)) {
+        (Kind::Code, Some(Field::Code(s))) => s == e.code,
+        (Kind::Parent, Some(Field::Parent(s))) => e.parent == Some(s),
+        (Kind::Count, Some(Field::Count(n))) => n == e.count,
+        (Kind::Landing, Some(Field::Landing(z))) => e.landing == Some(z),
+        (Kind::Months, Some(Field::Months(n))) => e.months == Some(n),
+        (Kind::Drawing, Some(Field::Drawing(s))) => e.drawing == Some(s),
+        (Kind::Parent, None) => e.parent.is_none(),
+        (Kind::Landing, None) => e.landing.is_none(),
+        (Kind::Months, None) => e.months.is_none(),
+        (Kind::Drawing, None) => e.drawing.is_none(),
+        _ => false,
+    }
 }
 
 // The reader speaks for this entry.
