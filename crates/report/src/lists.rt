@@ -9,7 +9,7 @@ use sheet::reader::Reader;
 use std::alloc::Global;
 
 // Adds the line of an entry.
-fn add_line(text: &mut Vec<u8>, e: Entry<'_>) -> Result<(), Halt>
+fn add_line(text: &mut Vec<u8>, e: Entry<&[u8]>) -> Result<(), Halt>
     ensures { Added (item_of e.entry) text.old.items text.new.items result }
 {
     let mut row = [0u8; 70];

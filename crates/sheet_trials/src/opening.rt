@@ -50,7 +50,7 @@ fn largest(rt: &impl Abort, heap: Global) -> Result<Vec<u8>, Fail> {
     for count in 1..1365u16 {
         at = write(Entry { count, ..SHORTEST }, &mut sheet, at)?;
     }
-    let last = Entry {
+    let last: Entry<&[u8]> = Entry {
         drawing: Some(b"A/1"),
         ..SHORTEST
     };
