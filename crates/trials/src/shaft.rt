@@ -2,6 +2,7 @@
 use crate::vectors::VECTORS;
 use delivery::message::{open, seal};
 use fault::kinds::{Placed, SessionFault};
+use std::array;
 use std::process::Abort;
 use std::test::Fail;
 
@@ -68,6 +69,15 @@ fn forged(
     Ok(())
 }
 
+// The bytes with one bit turned, in each of them in turn.
+fn each_damaged<const N: usize>(bytes: [u8; N]) -> [[u8; N]; N] {
+    array::from_fn(|i| {
+        let mut damaged = bytes;
+        damaged[i] ^= 1;
+        damaged
+    })
+}
+
 #[test]
 fn damage_is_refused(rt: HostRuntime) -> Result<(), Fail> {
     let mut ciphertext = [0; 37];
@@ -79,19 +89,13 @@ fn damage_is_refused(rt: HostRuntime) -> Result<(), Fail> {
     let mut out = [0; 37];
     assert_eq!(rt; open(1, &KEY, &HEADER, &ciphertext, &tag, &mut out)?, 37);
     assert_eq!(rt; out, MESSAGE);
-    for i in 0..21usize {
-        let mut damaged = HEADER;
-        damaged[i] ^= 1;
+    for damaged in each_damaged(HEADER) {
         forged(&rt, "a byte of the header", &damaged, &ciphertext, &tag)?;
     }
-    for i in 0..37usize {
-        let mut damaged = ciphertext;
-        damaged[i] ^= 1;
+    for damaged in each_damaged(ciphertext) {
         forged(&rt, "a byte of the ciphertext", &HEADER, &damaged, &tag)?;
     }
-    for i in 0..16usize {
-        let mut damaged = tag;
-        damaged[i] ^= 1;
+    for damaged in each_damaged(tag) {
         forged(&rt, "a byte of the tag", &HEADER, &ciphertext, &damaged)?;
     }
     Ok(())
