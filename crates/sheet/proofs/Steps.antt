@@ -3,14 +3,11 @@ use Rattle.std.proofs.Common.{◌≡◌, ℕ, ◌+◌, ◌-◌, ◌≤◌, Bool,
 use Rattle.std.proofs.lemmas.List.{drop-drop, take_all}
 use Rattle.fault.specs.declared.kinds.SheetFault.{SheetFault}
 use Rattle.sheet.specs.Entries.{Held}
-use Rattle.sheet.specs.Reading.{Read, fault, check}
+use Rattle.sheet.specs.Reading.{Read, check}
 use Rattle.sheet.specs.Calls.{Ends, HeldOr, HeldTold, Lies}
 
 pub check_passes : {X : Type 0} (b : Bool) (f : SheetFault) (r : Read X) → b ≡ true → check b f r ≡ r
 check_passes b f r e = ap (λ t. check t f r) e
-
-pub check_fails : {X : Type 0} (b : Bool) (f : SheetFault) (r : Read X) → b ≡ false → check b f r ≡ fault f
-check_fails b f r e = ap (λ t. check t f r) e
 
 -- the end of an end
 pub ends_all : (b : Bor (List ℕ)) → Ends b b

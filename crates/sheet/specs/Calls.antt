@@ -13,6 +13,11 @@ use Rattle.sheet.specs.declared.entry.Kind.TheVariants as kind
 use Rattle.sheet.specs.Entries.{Item, Held, Good, AllGood, bytes, sheet_of, Lent, item_of}
 use Rattle.sheet.specs.Reading.{Read, got, fault, read_item}
 
+-- Putting the bytes s into the buffer `old` at a place, if there is room; q is the place behind them.
+abbrev pub Put : (old new : List ℕ) (at : ℕ) (s : List ℕ) → Result ℕ (Placed SheetFault) → Type 0
+Put old new at s (Ok q) = (q ≡ at + length s) × (q ≤ length old) × (new ≡ take at old ++ (s ++ drop q old))
+Put old new at s (Err f) = (new ≡ old) × (f.place ≡ at) × (f.fault ≡ Room) × (length old < at + length s)
+
 -- Writing the entry e into the buffer `old` at a place; q is where the next would begin. Values are tested before room.
 abbrev pub Wrote : (old new : List ℕ) (at : ℕ) (e : Item) → Result ℕ (Placed SheetFault) → Type 0
 Wrote old new at e (Ok q) = Good e × (q ≡ at + length (bytes e)) × (q ≤ length old) × (new ≡ take at old ++ (bytes e ++ drop q old))
