@@ -8,7 +8,7 @@ use Rattle.fault.specs.declared.kinds.SheetFault.{SheetFault}
 use Rattle.fault.specs.declared.kinds.Placed.{Placed}
 use Rattle.sheet.specs.Table.{row_of, in_row}
 use Rattle.sheet.specs.Entries.{signs, Item, Good, Held, CodeForm, NumberForm, LandingForm, DrawingForm, two, one, text, counted, held, item_map, bytes, code_test, held_test, good_test}
-use Rattle.sheet.specs.Calls.{Put, Wrote}
+use Rattle.sheet.specs.Calls.{Put, WroteAs}
 
 pub short : (n : ℕ) → in_row 5 (pos n) ≡ true → n ≤ 32
 unfolding row_of
@@ -134,6 +134,6 @@ drawing_short o s e f =
     short (length s.now) g.0
 
 -- what the writing of an entry answers, from where its bytes were put
-pub wrote_by : (e : Item) (b old new : List ℕ) (at : ℕ) (r : Result ℕ (Placed SheetFault)) → Good e → b ≡ bytes e → Put old new at b r → Wrote old new at e r
-wrote_by e b old new at (Ok q) g be p = (g, p.0 ∙ ap (λ (x : List ℕ). at + length x) be, p.1, p.2 ∙ ap (λ (x : List ℕ). take at old ++ (x ++ drop q old)) be)
-wrote_by e b old new at (Err f) g be p = (p.0, p.1, inr (p.2, g, subst (λ (x : List ℕ). length old < at + length x) be p.3))
+pub wrote_as : (e : Item) (b c old new : List ℕ) (at : ℕ) (r : Result ℕ (Placed SheetFault)) → Good e → b ≡ c → Put old new at b r → WroteAs old new at e c r
+wrote_as e b c old new at (Ok q) g be p = (g, p.0 ∙ ap (λ (x : List ℕ). at + length x) be, p.1, p.2 ∙ ap (λ (x : List ℕ). take at old ++ (x ++ drop q old)) be)
+wrote_as e b c old new at (Err f) g be p = (p.0, p.1, inr (p.2, g, subst (λ (x : List ℕ). length old < at + length x) be p.3))
