@@ -1,4 +1,5 @@
 // What a call answered, as a line.
+use fault::shown::Fault;
 use listing::line::line;
 use reading::script::Reply;
 use sheet::entry::{Entry, Field};

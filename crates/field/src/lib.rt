@@ -22,14 +22,14 @@ pub fn double(b: u8) -> u8
 pub fn sub_byte(b: u8) -> u8
     ensures { result ≡ sub b }
 {
-    sbox::table()[b as usize]
+    sbox::table()[usize::from(b)]
 }
 
 // The byte that b replaces.
 pub fn unsub_byte(b: u8) -> u8
     ensures { result ≡ unsub b }
 {
-    unsbox::table()[b as usize]
+    unsbox::table()[usize::from(b)]
 }
 
 // Products go through sums, and every byte but 0 has an inverse.

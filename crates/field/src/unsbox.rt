@@ -1,4 +1,6 @@
 // Its inverse as a table: what each byte replaces.
+//
+// Kept beside the other table: the two differ in their entries, and the rest is one line.
 ghost use Rattle.field.specs.Substitution.{Tabled, unsub};
 
 const ENTRIES: [u8; 256] = [

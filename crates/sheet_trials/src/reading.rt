@@ -190,8 +190,7 @@ const BROKEN: [(&'static [u8], SheetFault); 26] = [
 #[test]
 fn broken_entries(rt: HostRuntime) -> Result<(), Fail> {
     let heap = rt.alloc();
-    for i in 0..26usize {
-        let (bytes, fault) = BROKEN[i];
+    for (i, (bytes, fault)) in BROKEN.into_iter().enumerate() {
         refuses(&rt, heap, bytes, fault, &format_args!("case {i}"))?;
     }
     Ok(())
