@@ -48,6 +48,7 @@ fn read_number(kind: Kind, bytes: &[u8]) -> Result<(u16, &[u8]), SheetFault>
     Ok((n, rest))
 }
 
+#[tactic(auto, unfolding(crate::specs::Table::row_of))]
 fn read_landing(bytes: &[u8]) -> Result<(i8, &[u8]), SheetFault>
     ensures told { Told (λ z. z) (read_landing bytes.now) result }
     ensures lies { IfOk result (λ x. Ends bytes.entry x.1) }
@@ -60,6 +61,7 @@ fn read_landing(bytes: &[u8]) -> Result<(i8, &[u8]), SheetFault>
     Ok((z, rest))
 }
 
+#[tactic(auto, unfolding(crate::specs::Table::row_of))]
 fn read_drawing(bytes: &[u8]) -> Result<(&[u8], &[u8]), SheetFault>
     ensures told { Told (λ s. s.now) (read_drawing bytes.now) result }
     ensures long { IfOk result (λ x. length x.1.now + length x.0.now ≤ length bytes.now) }
@@ -111,6 +113,7 @@ fn read_map(bytes: &[u8]) -> Result<(u16, &[u8]), SheetFault>
 }
 
 // An entry.
+#[tactic(auto, unfolding(crate::specs::Table::row_of))]
 pub(crate) fn read_entry(bytes: &[u8]) -> Result<(Entry<&[u8]>, &[u8]), SheetFault>
     ensures told { Told item_of (read_item bytes.now) result }
     ensures lies { IfOk result (λ x. Ends bytes.entry x.1 × (length x.1.now < length bytes.now) × ((m : ℕ × ℕ) (n : ℕ) → Lies m n bytes.entry → InPlace m n (n + (length bytes.now - length x.1.now)) x.0)) }

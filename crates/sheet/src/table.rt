@@ -84,6 +84,7 @@ const ROWS: [Row; 16] = [
 ];
 
 // The row of a bit.
+#[tactic(auto, unfolding(crate::specs::Table::row_of))]
 pub(crate) fn row_at(k: usize) -> Row
     requires { k < 16 }
     ensures { result ≡ row_of k }
@@ -100,6 +101,7 @@ impl Kind {
     }
 
     // Its row of the table.
+    #[tactic(auto, unfolding(crate::specs::Table::row_of))]
     pub(crate) fn row(self) -> Row
         ensures { result ≡ row_of (bit_of self) }
     {
