@@ -1,11 +1,11 @@
 -- An entry as a line of text, its yearly need, and what the calls that write the line do.
-use Rattle.std.specs.Prelude.{◌≡◌, ℕ, ◌+◌, ◌*◌, ◌/◌, ◌<◌, ◌≤◌, ◌⊎◌, List, [], ◌∷◌, ◌++◌, length, take, drop, Some, None, Ok, Err, decimal, Option, Result}
+use Rattle.std.specs.Prelude.{◌≡◌, ℕ, ◌+◌, ◌*◌, ◌/◌, ◌<◌, ◌≤◌, List, [], ◌∷◌, ◌++◌, length, Some, None, decimal, Option, Result}
 use Rattle.std.specs.Option.{option_map}
 use Rattle.std.specs.Fmt.{signed_decimal}
 use Rattle.fault.specs.declared.kinds.SheetFault.{SheetFault}
-use Rattle.fault.specs.declared.kinds.SheetFault.TheVariants.{Room, Value}
 use Rattle.fault.specs.declared.kinds.Placed.{Placed}
 use Rattle.sheet.specs.Entries.{Item, Good, Held, text}
+use Rattle.sheet.specs.Calls.{WroteAs}
 
 -- n is a / b to the nearest whole number, the upper one at a half: n - 1/2 ≤ a / b < n + 1/2
 pub record Nearest (a b n : ℕ) : Type 0 where
@@ -40,20 +40,9 @@ line_of e = e.code
     ++ (59 ∷ (shown text e.drawing
     ++ (10 ∷ [])))))))))))))
 
--- s was put at a place, and r is where the next begins
-pub record Put (old new : List ℕ) (at : ℕ) (s : List ℕ) (r : ℕ) : Type 0 where
-  pub front : take r new ≡ take at old ++ s
-  pub next : r ≡ at + length s
-
--- the same, with the byte that ends s
-pub record Ended (old new : List ℕ) (at : ℕ) (s : List ℕ) (stop r : ℕ) : Type 0 where
-  pub front : take r new ≡ take at old ++ (s ++ (stop ∷ []))
-  pub next : r ≡ at + length s + 1
-
 -- Writing the line of the entry e into the buffer `old` at a place; q is where the next would begin. Values are tested before room.
 abbrev pub Lined : (old new : List ℕ) (at : ℕ) (e : Item) → Result ℕ (Placed SheetFault) → Type 0
-Lined old new at e (Ok q) = Good e × (q ≡ at + length (line_of e)) × (q ≤ length old) × (new ≡ take at old ++ (line_of e ++ drop q old))
-Lined old new at e (Err f) = (new ≡ old) × (f.place ≡ at) × (((f.fault ≡ Value) × (Good e → ⊥)) ⊎ ((f.fault ≡ Room) × Good e × (length old < at + length (line_of e))))
+Lined old new at e r = WroteAs old new at e (line_of e) r
 
 -- the line of a good entry has at most 70 bytes, and its yearly need is the nearest whole number
 abbrev pub LineLaw : Type 0

@@ -1,74 +1,74 @@
-// The fields of a line, written one by one into a buffer that has room for them. Each call answers where the next begins.
-ghost use Rattle.std.specs.Prelude.{◌≡◌, ◌+◌, ◌<◌, ◌≤◌, length, drop, decimal};
-ghost use Rattle.std.specs.Option.{option_map};
+// The fields of a line, put one behind the other into a buffer, as far as there is room.
+ghost use Rattle.std.specs.Prelude.{◌≡◌, ℕ, List, [], ◌∷◌, ◌++◌, take, decimal};
 ghost use Rattle.std.specs.Fmt.{signed_decimal};
-ghost use Rattle.sheet.specs.Entries.{text};
-ghost use Rattle.listing.specs.Lines.{Ended, Put, shown};
+ghost use Rattle.listing.specs.Lines.{shown};
 
-// The bytes of s as they are.
-pub(crate) fn put(out: &mut [u8], at: usize, s: &[u8]) -> usize
-    requires { at + length s.now ≤ length out.old }
-    ensures part { Put out.old out.new at s.now result }
-    ensures after { drop result out.new ≡ drop result out.old }
-{
-    let next = at + s.len();
-    out[at..next].copy_from_slice(s);
-    next
+use buffer::Buffer;
+
+// Room for the line of any good entry.
+pub(crate) type Line = Buffer<70>;
+
+// What a field may hold: its text is put behind what a line has.
+pub(crate) trait Shown {
+    ghost text: { Self → List ℕ };
+
+    fn put(self, line: &mut Line)
+        ensures { line.new ≡ take 70 (line.old ++ text self) };
+}
+
+impl Shown for &[u8] {
+    ghost text = { λ s. s.now };
+
+    fn put(self, line: &mut Line) {
+        line.extend(self);
+    }
+}
+
+impl Shown for u32 {
+    ghost text = { decimal };
+
+    fn put(self, line: &mut Line) {
+        put_decimal(line, self);
+    }
+}
+
+impl Shown for u16 {
+    ghost text = { decimal };
+
+    fn put(self, line: &mut Line) {
+        put_decimal(line, u32::from(self));
+    }
+}
+
+impl Shown for i8 {
+    ghost text = { signed_decimal };
+
+    fn put(self, line: &mut Line) {
+        if self < 0 {
+            line.extend(b"-");
+        }
+        put_decimal(line, u32::from(self.unsigned_abs()));
+    }
 }
 
 // A number in decimal, the last digit last.
-fn put_decimal(out: &mut [u8], at: usize, n: u32) -> usize
-    requires { at + length (decimal n) ≤ length out.old }
-    ensures { Put out.old out.new at (decimal n) result }
+// Kept: `write!` may fail, as far as its contract says, and the line of a good entry may not.
+fn put_decimal(line: &mut Line, n: u32)
+    ensures { line.new ≡ take 70 (line.old ++ decimal n) }
 {
-    if n < 10 {
-        return put(out, at, &[b'0' + n as u8]);
+    if n >= 10 {
+        put_decimal(line, n / 10);
     }
-    let next = put_decimal(out, at, n / 10);
-    put(out, next, &[b'0' + (n % 10) as u8])
+    line.extend(&[b'0' + (n % 10) as u8]);
 }
 
-// A text, or a dash where there is none, and the byte that ends it.
-pub(crate) fn put_text(out: &mut [u8], at: usize, o: Option<&[u8]>, stop: u8) -> usize
-    requires { at + length (shown text (option_map (λ s. s.now) o)) < length out.old }
-    ensures { Ended out.old out.new at (shown text (option_map (λ s. s.now) o.entry)) stop result }
+// A field, or a dash where there is none, and the byte that ends it.
+pub(crate) fn put_field<T: Shown>(line: &mut Line, field: Option<T>, stop: u8)
+    ensures { line.new ≡ take 70 (line.old ++ (shown T.text field ++ (stop ∷ []))) }
 {
-    let next = match o {
-        Some(s) => put(out, at, s),
-        None => put(out, at, b"-"),
-    };
-    put(out, next, &[stop])
-}
-
-// A number or a dash, and a semicolon.
-pub(crate) fn put_number(out: &mut [u8], at: usize, o: Option<u32>) -> usize
-    requires { at + length (shown decimal o) < length out.old }
-    ensures { Ended out.old out.new at (shown decimal o) 59 result }
-{
-    let next = match o {
-        Some(n) => put_decimal(out, at, n),
-        None => put(out, at, b"-"),
-    };
-    put(out, next, b";")
-}
-
-// A number with its sign, where it is negative.
-fn put_signed(out: &mut [u8], at: usize, z: i8) -> usize
-    requires { at + length (signed_decimal z) ≤ length out.old }
-    ensures { Put out.old out.new at (signed_decimal z) result }
-{
-    let first = if z < 0 { put(out, at, b"-") } else { at };
-    put_decimal(out, first, z.unsigned_abs() as u32)
-}
-
-// A landing or a dash, and a semicolon.
-pub(crate) fn put_landing(out: &mut [u8], at: usize, o: Option<i8>) -> usize
-    requires { at + length (shown signed_decimal o) < length out.old }
-    ensures { Ended out.old out.new at (shown signed_decimal o) 59 result }
-{
-    let next = match o {
-        Some(z) => put_signed(out, at, z),
-        None => put(out, at, b"-"),
-    };
-    put(out, next, b";")
+    match field {
+        Some(value) => value.put(line),
+        None => line.extend(b"-"),
+    }
+    line.extend(&[stop]);
 }

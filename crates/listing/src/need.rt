@@ -8,8 +8,8 @@ pub fn yearly_need(count: u16, months: u16) -> Option<u32>
     if months == 0 {
         return None;
     }
-    let months = months as u32;
-    Some((24 * count as u32 + months) / (2 * months))
+    let months = u32::from(months);
+    Some((24 * u32::from(count) + months) / (2 * months))
 }
 
 // The theorem that only one whole number is the nearest.

@@ -14,10 +14,7 @@ use std::alloc::{AllocError, Global};
 fn copy_text(heap: Global, s: Option<&[u8]>) -> Result<Option<Vec<u8>>, AllocError>
     ensures { IfOk result (λ v. option_map vec_items v ≡ option_map (λ x. x.now) s.entry) }
 {
-    match s {
-        Some(s) => Ok(Some(Vec::from_slice(heap, s)?)),
-        None => Ok(None),
-    }
+    s.map(|s| Vec::from_slice(heap, s)).transpose()
 }
 
 fn copy_entry(heap: Global, e: Entry<&[u8]>) -> Result<Entry<Vec<u8>>, AllocError>
@@ -69,10 +66,8 @@ fn next_reply(heap: Global, reader: &mut Reader<'_>) -> Result<Reply, AllocError
 fn field_reply(heap: Global, reader: &Reader<'_>, kind: Kind) -> Result<Reply, AllocError>
     ensures { IfOk result (λ x. Replied reader.now reader.now (Ask.Field kind) (said x)) }
 {
-    match reader.field(kind) {
-        Some(f) => Ok(Reply::Field(Some(copy_field(heap, f)?))),
-        None => Ok(Reply::Field(None)),
-    }
+    let field = reader.field(kind).map(|f| copy_field(heap, f)).transpose()?;
+    Ok(Reply::Field(field))
 }
 
 // A list of calls on a new reader over the sheet.

@@ -2,7 +2,7 @@
 use Rattle.std.proofs.Common.{◌≡◌, ℕ, zero, suc, ◌+◌, ◌*◌, ◌/◌, ◌%◌, ◌^◌, ◌<◌, ◌≤◌, Bool, true, false, cond, ◌&&◌, ◌||◌, eqb, ltb, leb, List, [], ◌∷◌, ◌++◌, length, get_or, take, drop, ℤ, pos, negsuc, is_some, Some, None, Option, sym, refl, ap, ◌∙◌, subst, arith, length-append, take-append-drop, length-take-le, w8, SFits, to_z, le-leb}
 use Rattle.std.specs.List.{All}
 use Rattle.std.proofs.lemmas.List.{take_at, drop_at}
-use Rattle.std.proofs.lemmas.List.Elements.{All-nil, All-cons, All-head, All-tail}
+use Rattle.std.proofs.lemmas.List.Elements.{All-take, All-drop}
 use Rattle.std.proofs.lemmas.Bool.Decides.{nat_tests, Decides-below_and, Decides-eqb}
 use Rattle.std.proofs.lemmas.Int.{to_z-of_z, of_z-to_z}
 use Rattle.fault.specs.declared.kinds.SheetFault.{SheetFault}
@@ -17,12 +17,10 @@ abbrev pub Octets : List ℕ → Type 0
 Octets bs = All (λ b. b < 256) bs
 
 pub octets_left : (xs ys : List ℕ) → Octets (xs ++ ys) → Octets xs
-octets_left [] ys h = All-nil (λ b. b < 256)
-octets_left (x ∷ xs) ys h = All-cons (λ b. b < 256) x xs (All-head (λ b. b < 256) x (xs ++ ys) h) (octets_left xs ys (All-tail (λ b. b < 256) x (xs ++ ys) h))
+octets_left xs ys h = subst Octets (take_at xs ys (length xs) refl) (All-take (λ b. b < 256) (length xs) (xs ++ ys) h)
 
 pub octets_right : (xs ys : List ℕ) → Octets (xs ++ ys) → Octets ys
-octets_right [] ys h = h
-octets_right (x ∷ xs) ys h = octets_right xs ys (All-tail (λ b. b < 256) x (xs ++ ys) h)
+octets_right xs ys h = subst Octets (drop_at xs ys (length xs) refl) (All-drop (λ b. b < 256) (length xs) (xs ++ ys) h)
 
 pub fault_got : {X : Type 0} (f : SheetFault) (a : X) (r : List ℕ) → fault f ≡ got a r → ⊥
 fault_got f a r e = let z : ◌≡◌ {A = ℕ} 0 1 = cc in omega arith

@@ -3,14 +3,17 @@ use Rattle.std.proofs.Common.{◌≡◌, ℕ, ◌+◌, ◌-◌, ◌≤◌, Bool,
 use Rattle.std.proofs.lemmas.List.{drop-drop, take_all}
 use Rattle.fault.specs.declared.kinds.SheetFault.{SheetFault}
 use Rattle.sheet.specs.Entries.{Held}
-use Rattle.sheet.specs.Reading.{Read, fault, check}
+use Rattle.sheet.specs.Reading.{Read, check}
 use Rattle.sheet.specs.Calls.{Ends, HeldOr, HeldTold, Lies}
 
 pub check_passes : {X : Type 0} (b : Bool) (f : SheetFault) (r : Read X) → b ≡ true → check b f r ≡ r
 check_passes b f r e = ap (λ t. check t f r) e
 
-pub check_fails : {X : Type 0} (b : Bool) (f : SheetFault) (r : Read X) → b ≡ false → check b f r ≡ fault f
-check_fails b f r e = ap (λ t. check t f r) e
+-- an end of bytes that lie at a place
+pub lies_on : (m : ℕ × ℕ) (n k : ℕ) (b r : Bor (List ℕ)) → Lies m n b → Ends b r → n + (length b.now - length r.now) ≡ k → Lies m k r
+lies_on m n k b r h e q =
+    let p : m.1 + n + (length b.now - length r.now) ≡ m.1 + k = omega (arith, q) in
+    e.lies ∙ ap (λ (t : ℕ × ℕ). (t.0, t.1 + (length b.now - length r.now))) h ∙ ap (λ (i : ℕ). (m.0, i)) p
 
 -- the end of an end
 pub ends_all : (b : Bor (List ℕ)) → Ends b b
@@ -24,19 +27,13 @@ ends_next a b c p q =
     let x = length a.now - length b.now in
     let y = length b.now - length c.now in
     let n : x + y ≡ length a.now - length c.now = omega (arith, p.long, q.long) in
-    let m : a.ref_ptr.1 + x + y ≡ a.ref_ptr.1 + (length a.now - length c.now) = omega (arith, n) in
     record {
       long = omega (arith, p.long, q.long);
       is = q.is ∙ ap (drop y) p.is ∙ drop-drop y x a.now ∙ ap (λ (k : ℕ). drop k a.now) n;
-      lies = q.lies ∙ ap (λ (t : ℕ × ℕ). (t.0, t.1 + y)) p.lies ∙ ap (λ (k : ℕ). (a.ref_ptr.0, k)) m;
+      lies = lies_on a.ref_ptr x _ b c p.lies q n;
     }
 
--- parts of bytes that lie at a place
-pub lies_on : (m : ℕ × ℕ) (n k : ℕ) (b r : Bor (List ℕ)) → Lies m n b → Ends b r → n + (length b.now - length r.now) ≡ k → Lies m k r
-lies_on m n k b r h e q =
-    let p : m.1 + n + (length b.now - length r.now) ≡ m.1 + k = omega (arith, q) in
-    e.lies ∙ ap (λ (t : ℕ × ℕ). (t.0, t.1 + (length b.now - length r.now))) h ∙ ap (λ (i : ℕ). (m.0, i)) p
-
+-- other parts that lie at a place
 pub lies_in : (m : ℕ × ℕ) (n j k : ℕ) (b s : Bor (List ℕ)) → Lies m n b → Lies b.ref_ptr j s → n + j ≡ k → Lies m k s
 lies_in m n j k b s h e q =
     let p : m.1 + n + j ≡ m.1 + k = omega (arith, q) in

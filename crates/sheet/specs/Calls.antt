@@ -13,10 +13,19 @@ use Rattle.sheet.specs.declared.entry.Kind.TheVariants as kind
 use Rattle.sheet.specs.Entries.{Item, Held, Good, AllGood, bytes, sheet_of, Lent, item_of}
 use Rattle.sheet.specs.Reading.{Read, got, fault, read_item}
 
--- Writing the entry e into the buffer `old` at a place; q is where the next would begin. Values are tested before room.
+-- Putting the bytes s into the buffer `old` at a place, if there is room; q is the place behind them.
+abbrev pub Put : (old new : List ℕ) (at : ℕ) (s : List ℕ) → Result ℕ (Placed SheetFault) → Type 0
+Put old new at s (Ok q) = (q ≡ at + length s) × (q ≤ length old) × (new ≡ take at old ++ (s ++ drop q old))
+Put old new at s (Err f) = (new ≡ old) × (f.place ≡ at) × (f.fault ≡ Room) × (length old < at + length s)
+
+-- Writing the entry e as the bytes b into the buffer `old` at a place; q is where the next would begin. Values are tested before room.
+abbrev pub WroteAs : (old new : List ℕ) (at : ℕ) (e : Item) (b : List ℕ) → Result ℕ (Placed SheetFault) → Type 0
+WroteAs old new at e b (Ok q) = Good e × (q ≡ at + length b) × (q ≤ length old) × (new ≡ take at old ++ (b ++ drop q old))
+WroteAs old new at e b (Err f) = (new ≡ old) × (f.place ≡ at) × (((f.fault ≡ Value) × (Good e → ⊥)) ⊎ ((f.fault ≡ Room) × Good e × (length old < at + length b)))
+
+-- as its bytes in a sheet
 abbrev pub Wrote : (old new : List ℕ) (at : ℕ) (e : Item) → Result ℕ (Placed SheetFault) → Type 0
-Wrote old new at e (Ok q) = Good e × (q ≡ at + length (bytes e)) × (q ≤ length old) × (new ≡ take at old ++ (bytes e ++ drop q old))
-Wrote old new at e (Err f) = (new ≡ old) × (f.place ≡ at) × (((f.fault ≡ Value) × (Good e → ⊥)) ⊎ ((f.fault ≡ Room) × Good e × (length old < at + length (bytes e))))
+Wrote old new at e r = WroteAs old new at e (bytes e) r
 
 -- What a function that reads from the front of some bytes answers: the value, and the bytes behind it.
 abbrev pub Told : {T X : Type 0} → (T → X) → Read X → Result (T × Bor (List ℕ)) SheetFault → Type 0

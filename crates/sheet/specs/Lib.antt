@@ -2,5 +2,4 @@ pub mod Table
 pub mod Entries
 pub mod Reading
 pub mod Calls
-pub mod Puts
 pub mod Laws

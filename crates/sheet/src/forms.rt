@@ -9,7 +9,7 @@ use crate::entry::{Entry, Kind};
 fn is_sign(slash: bool, b: u8) -> bool
     ensures { result ≡ sign slash b }
 {
-    (b >= b'A' && b <= b'Z') || (b >= b'0' && b <= b'9') || (slash && b == b'/')
+    b.is_ascii_uppercase() || b.is_ascii_digit() || (slash && b == b'/')
 }
 
 pub(crate) fn are_signs(slash: bool, part: &[u8]) -> bool

@@ -1,5 +1,5 @@
 // The map of an entry: which of its bits stand, and whether they may.
-ghost use Rattle.std.specs.Prelude.{◌≡◌, ◌<◌};
+ghost use Rattle.std.specs.Prelude.{◌≡◌, ◌<◌, ◌^◌, cond};
 ghost use Rattle.sheet.specs.Table.{all_below, bit_of, complete_at, known_at, stands as Stands};
 ghost use Rattle.sheet.specs.Entries.{item_map, item_of};
 
@@ -49,12 +49,21 @@ pub(crate) fn all_required(map: u16) -> bool
     (0..16).all(|k| complete_at(map, k))
 }
 
+// What a field of a kind adds to the map, if it is there.
+fn flag(kind: Kind, there: bool) -> u16
+    ensures { result ≡ cond there (2 ^ bit_of kind) 0 }
+{
+    if there { 1 << kind.bit() } else { 0 }
+}
+
 // The map of an entry.
 pub(crate) fn map_of(e: Entry<&[u8]>) -> u16
     ensures { result ≡ item_map (item_of e.entry) }
 {
-    5 + (if e.parent.is_some() { 2 } else { 0 })
-        + (if e.landing.is_some() { 8 } else { 0 })
-        + (if e.months.is_some() { 16 } else { 0 })
-        + (if e.drawing.is_some() { 32 } else { 0 })
+    flag(Kind::Code, true)
+        + flag(Kind::Parent, e.parent.is_some())
+        + flag(Kind::Count, true)
+        + flag(Kind::Landing, e.landing.is_some())
+        + flag(Kind::Months, e.months.is_some())
+        + flag(Kind::Drawing, e.drawing.is_some())
 }

@@ -1,4 +1,4 @@
-// The fields of an entry, each read from the front of some bytes. A call answers the value, and the bytes behind it.
+// The fields of an entry, each read from the front of some bytes.
 ghost use Rattle.std.specs.Prelude.{◌≡◌, ℕ, ◌+◌, ◌-◌, ◌<◌, ◌≤◌, length, IfOk};
 ghost use Rattle.sheet.specs.Table.{bit_of, row_of};
 ghost use Rattle.sheet.specs.Entries.{item_of};
@@ -10,9 +10,12 @@ use crate::forms::are_signs;
 use crate::map::{all_required, has, only_known};
 use fault::kinds::SheetFault;
 
+// What was read, and the bytes behind it.
+type Read<'a, T> = Result<(T, &'a [u8]), SheetFault>;
+
 // The first n bytes.
 // Kept: the library's `split_at_checked` does not say where its parts stand in memory.
-fn front(bytes: &[u8], n: usize) -> Result<(&[u8], &[u8]), SheetFault>
+fn front(bytes: &[u8], n: usize) -> Read<'_, &[u8]>
     ensures told { Told (λ s. s.now) (some n bytes.now) result }
     ensures long { IfOk result (λ x. (length x.0.now ≡ n) × (length x.1.now + n ≡ length bytes.now)) }
     ensures lies { IfOk result (λ x. (x.0.ref_ptr ≡ bytes.entry.ref_ptr) × Ends bytes.entry x.1) }
@@ -23,7 +26,7 @@ fn front(bytes: &[u8], n: usize) -> Result<(&[u8], &[u8]), SheetFault>
     Ok((&bytes[..n], &bytes[n..]))
 }
 
-fn read_code(kind: Kind, bytes: &[u8]) -> Result<(&[u8], &[u8]), SheetFault>
+fn read_code(kind: Kind, bytes: &[u8]) -> Read<'_, &[u8]>
     ensures told { Told (λ s. s.now) (read_code (bit_of kind) bytes.now) result }
     ensures long { IfOk result (λ x. length x.1.now + (row_of (bit_of kind)).width ≡ length bytes.now) }
     ensures lies { IfOk result (λ x. (x.0.ref_ptr ≡ bytes.entry.ref_ptr) × Ends bytes.entry x.1) }
@@ -35,7 +38,7 @@ fn read_code(kind: Kind, bytes: &[u8]) -> Result<(&[u8], &[u8]), SheetFault>
     Ok((code, rest))
 }
 
-fn read_number(kind: Kind, bytes: &[u8]) -> Result<(u16, &[u8]), SheetFault>
+fn read_number(kind: Kind, bytes: &[u8]) -> Read<'_, u16>
     requires { (row_of (bit_of kind)).width ≡ 2 }
     ensures told { Told (λ n. n) (read_number (bit_of kind) bytes.now) result }
     ensures lies { IfOk result (λ x. Ends bytes.entry x.1) }
@@ -48,7 +51,8 @@ fn read_number(kind: Kind, bytes: &[u8]) -> Result<(u16, &[u8]), SheetFault>
     Ok((n, rest))
 }
 
-fn read_landing(bytes: &[u8]) -> Result<(i8, &[u8]), SheetFault>
+#[tactic(auto, unfolding(crate::specs::Table::row_of))]
+fn read_landing(bytes: &[u8]) -> Read<'_, i8>
     ensures told { Told (λ z. z) (read_landing bytes.now) result }
     ensures lies { IfOk result (λ x. Ends bytes.entry x.1) }
 {
@@ -60,7 +64,8 @@ fn read_landing(bytes: &[u8]) -> Result<(i8, &[u8]), SheetFault>
     Ok((z, rest))
 }
 
-fn read_drawing(bytes: &[u8]) -> Result<(&[u8], &[u8]), SheetFault>
+#[tactic(auto, unfolding(crate::specs::Table::row_of))]
+fn read_drawing(bytes: &[u8]) -> Read<'_, &[u8]>
     ensures told { Told (λ s. s.now) (read_drawing bytes.now) result }
     ensures long { IfOk result (λ x. length x.1.now + length x.0.now ≤ length bytes.now) }
     ensures lies { IfOk result (λ x. Lies bytes.entry.ref_ptr (length bytes.now - length x.1.now - length x.0.now) x.0 × Ends bytes.entry x.1) }
@@ -78,11 +83,11 @@ fn read_drawing(bytes: &[u8]) -> Result<(&[u8], &[u8]), SheetFault>
 }
 
 // A field that is read only if its bit stands.
-fn read_held<'a, T, F: FnOnce(&'a [u8]) -> Result<(T, &'a [u8]), SheetFault>>(
+fn read_held<'a, T, F: FnOnce(&'a [u8]) -> Read<'a, T>>(
     on: bool,
     bytes: &'a [u8],
     read: F,
-) -> Result<(Option<T>, &'a [u8]), SheetFault>
+) -> Read<'a, Option<T>>
     requires { F.pre read bytes }
     ensures { HeldTold on bytes.entry (F.post read bytes.entry) result }
 {
@@ -94,7 +99,7 @@ fn read_held<'a, T, F: FnOnce(&'a [u8]) -> Result<(T, &'a [u8]), SheetFault>>(
 }
 
 // The map: cut short, then a bit that may not stand, then one that is missing.
-fn read_map(bytes: &[u8]) -> Result<(u16, &[u8]), SheetFault>
+fn read_map(bytes: &[u8]) -> Read<'_, u16>
     ensures told { Told (λ m. m) (read_map bytes.now) result }
     ensures long { IfOk result (λ x. length x.1.now + 2 ≡ length bytes.now) }
     ensures lies { IfOk result (λ x. Ends bytes.entry x.1) }
@@ -111,7 +116,8 @@ fn read_map(bytes: &[u8]) -> Result<(u16, &[u8]), SheetFault>
 }
 
 // An entry.
-pub(crate) fn read_entry(bytes: &[u8]) -> Result<(Entry<&[u8]>, &[u8]), SheetFault>
+#[tactic(auto, unfolding(crate::specs::Table::row_of))]
+pub(crate) fn read_entry(bytes: &[u8]) -> Read<'_, Entry<&[u8]>>
     ensures told { Told item_of (read_item bytes.now) result }
     ensures lies { IfOk result (λ x. Ends bytes.entry x.1 × (length x.1.now < length bytes.now) × ((m : ℕ × ℕ) (n : ℕ) → Lies m n bytes.entry → InPlace m n (n + (length bytes.now - length x.1.now)) x.0)) }
 {

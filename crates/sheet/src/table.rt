@@ -83,7 +83,8 @@ const ROWS: [Row; 16] = [
     UNKNOWN,
 ];
 
-// The row of a bit.
+// The row of a bit, which may be of no kind.
+#[tactic(auto, unfolding(crate::specs::Table::row_of))]
 pub(crate) fn row_at(k: usize) -> Row
     requires { k < 16 }
     ensures { result ≡ row_of k }
@@ -100,6 +101,7 @@ impl Kind {
     }
 
     // Its row of the table.
+    #[tactic(auto, unfolding(crate::specs::Table::row_of))]
     pub(crate) fn row(self) -> Row
         ensures { result ≡ row_of (bit_of self) }
     {

@@ -1,94 +1,54 @@
 // Writes entries into a buffer.
-ghost use Rattle.std.specs.Prelude.{◌≡◌, ◌+◌, ◌≤◌, length, take, drop};
-ghost use Rattle.std.specs.Option.{option_map};
+ghost use Rattle.std.specs.Prelude.{◌≡◌};
 ghost use Rattle.sheet.specs.Table.{standing};
-ghost use Rattle.sheet.specs.Entries.{CodeForm, DrawingForm, Good, Held, bytes, counted, field_count, held, item_map, item_of, one, text, two};
-ghost use Rattle.sheet.specs.Calls.{Wrote};
+ghost use Rattle.sheet.specs.Entries.{Good, bytes, field_count, item_map, item_of};
+ghost use Rattle.sheet.specs.Calls.{Put, Wrote};
 ghost use Rattle.sheet.specs.Laws.{WritingLaw};
-ghost use Rattle.sheet.specs.Puts.{Put};
 
 use crate::entry::Entry;
 use crate::forms::is_good;
 use crate::map::map_of;
+use buffer::Buffer;
 use fault::kinds::{Placed, SheetFault};
 
-// Bytes at a place; answers the place behind them.
-fn put(out: &mut [u8], at: usize, s: &[u8]) -> usize
-    requires { at + length s.now ≤ length out.old }
-    ensures at { Put out.old out.new at s.now result }
-    ensures after { drop result out.new ≡ drop result out.old }
+// The bytes of an entry, if it is good; they are 56 at most.
+fn encode(e: Entry<&[u8]>) -> Buffer<56>
+    requires { Good (item_of e) }
+    ensures { result ≡ bytes (item_of e.entry) }
 {
-    let next = at + s.len();
-    out[at..next].copy_from_slice(s);
-    next
-}
-
-fn put_landing(out: &mut [u8], at: usize, landing: Option<i8>) -> usize
-    requires { at + 1 ≤ length out.old }
-    ensures at { Put out.old out.new at (held one landing) result }
-    ensures bound { result ≤ at + 1 }
-{
-    match landing {
-        Some(z) => put(out, at, &[z.cast_unsigned()]),
-        None => at,
+    let mut out = Buffer::new();
+    out.extend(&map_of(e).to_be_bytes());
+    out.extend(e.code);
+    if let Some(parent) = e.parent {
+        out.extend(parent);
     }
-}
-
-fn put_months(out: &mut [u8], at: usize, months: Option<u16>) -> usize
-    requires { at + 2 ≤ length out.old }
-    ensures at { Put out.old out.new at (held two months) result }
-    ensures bound { result ≤ at + 2 }
-{
-    match months {
-        Some(n) => put(out, at, &n.to_be_bytes()),
-        None => at,
+    out.extend(&e.count.to_be_bytes());
+    if let Some(landing) = e.landing {
+        out.extend(&[landing.cast_unsigned()]);
     }
-}
-
-fn put_parent(out: &mut [u8], at: usize, parent: Option<&[u8]>) -> usize
-    requires { (at + 8 ≤ length out.old) × (Held (CodeForm 1) (option_map (λ s. s.now) parent)) }
-    ensures at { Put out.old out.new at (held text (option_map (λ s. s.now) parent.entry)) result }
-    ensures bound { result ≤ at + 8 }
-{
-    match parent {
-        Some(s) => put(out, at, s),
-        None => at,
+    if let Some(months) = e.months {
+        out.extend(&months.to_be_bytes());
     }
-}
-
-fn put_counted(out: &mut [u8], at: usize, s: &[u8]) -> usize
-    requires { (at + 33 ≤ length out.old) × (length s.now ≤ 32) }
-    ensures { Put out.old out.new at (counted s.now) result }
-{
-    let next = put(out, at, &[s.len() as u8]);
-    put(out, next, s)
-}
-
-fn put_drawing(out: &mut [u8], at: usize, drawing: Option<&[u8]>) -> usize
-    requires { (at + 33 ≤ length out.old) × (Held DrawingForm (option_map (λ s. s.now) drawing)) }
-    ensures at { Put out.old out.new at (held counted (option_map (λ s. s.now) drawing.entry)) result }
-    ensures bound { result ≤ at + 33 }
-{
-    match drawing {
-        Some(s) => put_counted(out, at, s),
-        None => at,
+    if let Some(drawing) = e.drawing {
+        out.extend(&[drawing.len() as u8]);
+        out.extend(drawing);
     }
+    out
 }
 
-// The bytes of a good entry, 56 at most, at the front of `out`.
-fn encode(e: Entry<&[u8]>, out: &mut [u8]) -> usize
-    requires { (Good (item_of e)) × (length out.old ≡ 56) }
-    ensures { (take result out.new ≡ bytes (item_of e.entry)) × (result ≡ length (bytes (item_of e.entry))) × (result ≤ 56) }
+// Puts bytes at a place of the buffer, if there is room, and answers the place behind them.
+pub fn put(s: &[u8], buf: &mut [u8], at: usize) -> Result<usize, Placed<SheetFault>>
+    ensures { Put buf.old buf.new at s.now result }
 {
-    let map = map_of(e).to_be_bytes();
-    let p1 = put(out, 0, &map);
-    let p2 = put(out, p1, e.code);
-    let p3 = put_parent(out, p2, e.parent);
-    let count = e.count.to_be_bytes();
-    let p4 = put(out, p3, &count);
-    let p5 = put_landing(out, p4, e.landing);
-    let p6 = put_months(out, p5, e.months);
-    put_drawing(out, p6, e.drawing)
+    if at > buf.len() || buf.len() - at < s.len() {
+        return Err(Placed {
+            fault: SheetFault::Room,
+            place: at,
+        });
+    }
+    let end = at + s.len();
+    buf[at..end].copy_from_slice(s);
+    Ok(end)
 }
 
 // Writes one entry at a place of the buffer, and answers the place where the next would begin.
@@ -101,16 +61,8 @@ pub fn write(e: Entry<&[u8]>, buf: &mut [u8], at: usize) -> Result<usize, Placed
             place: at,
         });
     }
-    let mut out = [0u8; 56];
-    let n = encode(e, &mut out);
-    if at > buf.len() || buf.len() - at < n {
-        return Err(Placed {
-            fault: SheetFault::Room,
-            place: at,
-        });
-    }
-    put(buf, at, &out[0..n]);
-    Ok(at + n)
+    let out = encode(e);
+    put(out.as_slice(), buf, at)
 }
 
 // How many fields an entry has: as many as bits stand in its map.

@@ -4,14 +4,6 @@ use Rattle.sheet.specs.Calls.{Ends, Lies}
 use Rattle.sheet.proofs.Steps.{ends_next, lies_on, lies_in, lies_first, held_map, held_ends}
 use Rattle.sheet.proofs.parts.read_entry.Goals as goal
 
-pub read_number-requires : goal.read_number-requires
-unfolding row_of
-read_number-requires c = refl
-
-pub read_held-requires-3 : goal.read_held-requires-3
-unfolding row_of
-read_held-requires-3 c κs = search rules
-
 pub returns-clause-lies : goal.returns-clause-lies
 unfolding row_of
 returns-clause-lies c =

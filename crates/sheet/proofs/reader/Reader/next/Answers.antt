@@ -3,11 +3,8 @@ use Rattle.sheet.specs.Reading.{got, read_item}
 use Rattle.sheet.specs.Entries.{item_of}
 use Rattle.sheet.specs.Calls.{InPlace}
 use Rattle.sheet.proofs.Steps.{rest_all, rest_at}
-use Rattle.sheet.proofs.Decoding.{ends, goes_on, breaks}
+use Rattle.sheet.proofs.Decoding.{goes_on, breaks}
 use Rattle.sheet.proofs.reader.Reader.next.Goals as goal
-
-pub returns-then-place-sheet-clause-follows : goal.returns-then-place-sheet-clause-follows
-returns-then-place-sheet-clause-follows c = λ es g q. ends _ _ es c.if-place-sheet.true q
 
 pub returns-in-Ok-clause-answer : goal.returns-in-Ok-clause-answer
 returns-in-Ok-clause-answer c =

@@ -1,7 +1,0 @@
-use Rattle.std.proofs.Common.{rules}
-use Rattle.sheet.specs.Table.{row_of}
-use Rattle.sheet.proofs.table.row_at.Goals as goal
-
-pub returns : goal.returns
-unfolding row_of
-returns c = search rules
