@@ -23,15 +23,15 @@ pub fill_ok : (o : Option (Placed KeyFault)) (key b b' : List ℕ) → FillBy o 
 fill_ok None key b b' f = (refl, f.1)
 fill_ok (Some e) key b b' f = absurd (ok_err f.0)
 
-pub header_ok : {A B C D : Type 0} {u : suite.Ghosts A B C D} (p : permutation.Ghosts B) (h : hash.Ghosts C) (d : digest.Ghosts D) (under : List ℕ → Functions) (R : Run) (P : List ℕ) (s s' : Heading A B C D u p h d) (r : Result (Unit {0}) (Placed SessionFault))
-    → length R.header + length P ≤ 65536 → HeaderBy (header_check (length R.header) (length P)) p h d under R P s s' r → (r ≡ Ok tt) × HeadingAt p h d under (headed R P) s'
-header_ok p h d under R P s s' r l c =
+pub header_ok : {A B C D : Type 0} {u : suite.Ghosts A B C D} {p : permutation.Ghosts B} {h : hash.Ghosts C} {d : digest.Ghosts D} (R : Run) (P : List ℕ) (s s' : Heading A B C D u p h d) (r : Result (Unit {0}) (Placed SessionFault))
+    → length R.header + length P ≤ 65536 → HeaderBy (header_check (length R.header) (length P)) R P s s' r → (r ≡ Ok tt) × HeadingAt (headed R P) s'
+header_ok R P s s' r l c =
     let e : ltb 65536 (length R.header + length P) ≡ false = le-ltb 65536 (length R.header + length P) l in
     rw e at c
 
-pub body_ok : {A B C D : Type 0} {u : suite.Ghosts A B C D} {d : digest.Ghosts D} (p : permutation.Ghosts B) (h : hash.Ghosts C) (w : Direction) (under : List ℕ → Functions) (R : Run) (P o o' : List ℕ) (s s' : Core A B C D u p h d) (r : Result (ℕ × ℕ) (Placed SessionFault))
-    → length R.body + length P ≤ 1048576 → writes (held R + length P) ≤ length o → BodyBy (body_check (length R.body) (held R) (length P) (length o)) p h w under R P o o' s s' r → BodyTaken p h w under R P o o' s' r
-body_ok p h w under R P o o' s s' r l m c =
+pub body_ok : {A B C D : Type 0} {u : suite.Ghosts A B C D} {p : permutation.Ghosts B} {h : hash.Ghosts C} {d : digest.Ghosts D} (w : Direction) (R : Run) (P o o' : List ℕ) (s s' : Core A B C D u p h d) (r : Result (ℕ × ℕ) (Placed SessionFault))
+    → length R.body + length P ≤ 1048576 → writes (held R + length P) ≤ length o → BodyBy (body_check (length R.body) (held R) (length P) (length o)) w R P o o' s s' r → BodyTaken w R P o o' s' r
+body_ok w R P o o' s s' r l m c =
     let e : ltb 1048576 (length R.body + length P) ≡ false = le-ltb 1048576 (length R.body + length P) l in
     let d : ltb (length o) (writes (held R + length P)) ≡ false = le-ltb (length o) (writes (held R + length P)) m in
     rw (e, d) at c

@@ -51,134 +51,134 @@ open_refused : (o : Option (Placed SessionFault)) (f : Functions) (R : Run) (T l
 open_refused None f R T l e s = (s.fault, s.none, s.zeros)
 open_refused (Some d) f R T l e s = s
 
-module _ {A B C D : Type 0} {u : suite.Ghosts A B C D} {z : digest.Ghosts D} (x : permutation.Ghosts B) (y : hash.Ghosts C) (under : List ℕ → Functions) (L : (key : List ℕ) → Block key → Lawful (under key)) where
-  pub sealing_unfinished : (bs : List Stretch) (fin : Bool) (p p' : Played) (s s' : Core A B C D u x y z) → fin ≡ false → BodyPlayed x y sealing under bs p p' s s' → SealingPlayed x y under bs fin p p' Unfinished s
-  sealing_unfinished bs fin p p' s s' fe B = subst (λ (i : Bool). SealingPlayed x y under bs i p p' Unfinished s) (sym fe) λ key a.
+module _ {A B C D : Type 0} {u : suite.Ghosts A B C D} {x : permutation.Ghosts B} {y : hash.Ghosts C} {z : digest.Ghosts D} (L : (key : List ℕ) → Block key → Lawful (u.under key)) where
+  pub sealing_unfinished : (bs : List Stretch) (fin : Bool) (p p' : Played) (s s' : Core A B C D u x y z) → fin ≡ false → BodyPlayed sealing bs p p' s s' → SealingPlayed {u = u} bs fin p p' Unfinished s
+  sealing_unfinished bs fin p p' s s' fe B = subst (λ (i : Bool). SealingPlayed {u = u} bs i p p' Unfinished s) (sym fe) λ key a.
       let c = B.at key a in
       let l = L key c.taken.key_block in
-      let b = blocks (under key) l sealing (run_of key p') c.taken c.out_is in
-      record { header = B.header; body = B.body key a; blocks = b; agrees = agrees sealing (under key) l (run_of key p') b; finish = (refl, B.answers key a) }
+      let b = blocks (u.under key) l sealing (run_of key p') c.taken c.out_is in
+      record { header = B.header; body = B.body key a; blocks = b; agrees = agrees sealing (u.under key) l (run_of key p') b; finish = (refl, B.answers key a) }
 
-  pub sealing_accepted : (bs : List Stretch) (fin : Bool) (p p₁ p₂ : Played) (s s₁ : Core A B C D u x y z) (last tag g : List ℕ) (n j : ℕ) → fin ≡ true → BodyPlayed x y sealing under bs p p₁ s s₁
-      → ((R : Run) → CoreAt x y sealing under R s₁ → SealedBy (empty_check (length R.body)) (under R.key) R last tag (Ok n)) → p₂.header ≡ p₁.header → p₂.body ≡ p₁.body → vec_items p₂.out ≡ vec_items p₁.out ++ g → g ≡ take j last → j ≡ n
-      → vec_items p₂.answers ≡ vec_items p₁.answers ++ Finish (Ok n) ∷ [] → SealingPlayed x y under bs fin p p₂ (Sealed last tag) s
-  sealing_accepted bs fin p p₁ p₂ s s₁ last tag g n j fe B F he be oe ge je ae = subst (λ (i : Bool). SealingPlayed x y under bs i p p₂ (Sealed last tag) s) (sym fe) λ key a.
+  pub sealing_accepted : (bs : List Stretch) (fin : Bool) (p p₁ p₂ : Played) (s s₁ : Core A B C D u x y z) (last tag g : List ℕ) (n j : ℕ) → fin ≡ true → BodyPlayed sealing bs p p₁ s s₁
+      → ((R : Run) → CoreAt sealing R s₁ → SealedBy (empty_check (length R.body)) (u.under R.key) R last tag (Ok n)) → p₂.header ≡ p₁.header → p₂.body ≡ p₁.body → vec_items p₂.out ≡ vec_items p₁.out ++ g → g ≡ take j last → j ≡ n
+      → vec_items p₂.answers ≡ vec_items p₁.answers ++ Finish (Ok n) ∷ [] → SealingPlayed {u = u} bs fin p p₂ (Sealed last tag) s
+  sealing_accepted bs fin p p₁ p₂ s s₁ last tag g n j fe B F he be oe ge je ae = subst (λ (i : Bool). SealingPlayed {u = u} bs i p p₂ (Sealed last tag) s) (sym fe) λ key a.
       let c = B.at key a in
       let l = L key c.taken.key_block in
       let R = run_of key p₁ in
-      let q = seal_accepted (empty_check (length R.body)) (under key) R last tag n (F R c) in
+      let q = seal_accepted (empty_check (length R.body)) (u.under key) R last tag n (F R c) in
       let nh : n ≡ held R = ok_same q.1.answer in
-      let hs : held R ≡ held_of (length R.body) = held_same x y sealing under L R s₁ c in
+      let hs : held R ≡ held_of (length R.body) = held_same sealing L R s₁ c in
       let gh : g ≡ take (held R) last = ge ∙ ap (λ i. take i last) (je ∙ nh) in
       let run : finished R (take (held R) last) ≡ run_of key p₂ = cc in
-      let b : Blocks sealing (under key) (run_of key p₂) = subst (Blocks sealing (under key)) run q.1.blocks in
-      let ends : SealEnds (empty_check (length R.body)) (under key) (finished R (take (held R) last)) (Ok n) last tag =
-      subst (λ (o : Option (Placed SessionFault)). SealEnds o (under key) (finished R (take (held R) last)) (Ok n) last tag) (sym q.0) (ap Ok (nh ∙ hs), q.1.seals, subst (λ (i : ℕ). drop i last ≡ replicate (16 - i) 0) hs q.1.zeros) in
+      let b : Blocks sealing (u.under key) (run_of key p₂) = subst (Blocks sealing (u.under key)) run q.1.blocks in
+      let ends : SealEnds (empty_check (length R.body)) (u.under key) (finished R (take (held R) last)) (Ok n) last tag =
+      subst (λ (o : Option (Placed SessionFault)). SealEnds o (u.under key) (finished R (take (held R) last)) (Ok n) last tag) (sym q.0) (ap Ok (nh ∙ hs), q.1.seals, subst (λ (i : ℕ). drop i last ≡ replicate (16 - i) 0) hs q.1.zeros) in
       record {
         header = ap vec_items he ∙ B.header;
         body = ap vec_items be ∙ B.body key a;
         blocks = b;
-        agrees = agrees sealing (under key) l (run_of key p₂) b;
+        agrees = agrees sealing (u.under key) l (run_of key p₂) b;
         finish = (
           Ok n,
           last,
           tag,
           refl,
           ae ∙ ap (λ i. i ++ Finish (Ok n) ∷ []) (B.answers key a),
-          subst (λ (Q : Run). SealEnds (empty_check (length Q.body)) (under key) Q (Ok n) last tag) run ends,
+          subst (λ (Q : Run). SealEnds (empty_check (length Q.body)) (u.under key) Q (Ok n) last tag) run ends,
         );
       }
 
-  pub sealing_refused : (bs : List Stretch) (fin : Bool) (p p₁ p₂ : Played) (s s₁ : Core A B C D u x y z) (last tag : List ℕ) (e : Placed SessionFault) → fin ≡ true → BodyPlayed x y sealing under bs p p₁ s s₁
-      → ((R : Run) → CoreAt x y sealing under R s₁ → SealedBy (empty_check (length R.body)) (under R.key) R last tag (Err e)) → p₂.header ≡ p₁.header → p₂.body ≡ p₁.body → p₂.out ≡ p₁.out
-      → vec_items p₂.answers ≡ vec_items p₁.answers ++ Finish (Err e) ∷ [] → SealingPlayed x y under bs fin p p₂ (Sealed last tag) s
-  sealing_refused bs fin p p₁ p₂ s s₁ last tag e fe B F he be oe ae = subst (λ (i : Bool). SealingPlayed x y under bs i p p₂ (Sealed last tag) s) (sym fe) λ key a.
+  pub sealing_refused : (bs : List Stretch) (fin : Bool) (p p₁ p₂ : Played) (s s₁ : Core A B C D u x y z) (last tag : List ℕ) (e : Placed SessionFault) → fin ≡ true → BodyPlayed sealing bs p p₁ s s₁
+      → ((R : Run) → CoreAt sealing R s₁ → SealedBy (empty_check (length R.body)) (u.under R.key) R last tag (Err e)) → p₂.header ≡ p₁.header → p₂.body ≡ p₁.body → p₂.out ≡ p₁.out
+      → vec_items p₂.answers ≡ vec_items p₁.answers ++ Finish (Err e) ∷ [] → SealingPlayed {u = u} bs fin p p₂ (Sealed last tag) s
+  sealing_refused bs fin p p₁ p₂ s s₁ last tag e fe B F he be oe ae = subst (λ (i : Bool). SealingPlayed {u = u} bs i p p₂ (Sealed last tag) s) (sym fe) λ key a.
       let c = B.at key a in
       let l = L key c.taken.key_block in
       let R = run_of key p₁ in
       let run : R ≡ run_of key p₂ = cc in
-      let b : Blocks sealing (under key) (run_of key p₂) = subst (Blocks sealing (under key)) run (blocks (under key) l sealing R c.taken c.out_is) in
+      let b : Blocks sealing (u.under key) (run_of key p₂) = subst (Blocks sealing (u.under key)) run (blocks (u.under key) l sealing R c.taken c.out_is) in
       record {
         header = ap vec_items he ∙ B.header;
         body = ap vec_items be ∙ B.body key a;
         blocks = b;
-        agrees = agrees sealing (under key) l (run_of key p₂) b;
+        agrees = agrees sealing (u.under key) l (run_of key p₂) b;
         finish = (
           Err e,
           last,
           tag,
           refl,
           ae ∙ ap (λ i. i ++ Finish (Err e) ∷ []) (B.answers key a),
-          subst (λ (Q : Run). SealEnds (empty_check (length Q.body)) (under key) Q (Err e) last tag) run (seal_refused (empty_check (length R.body)) (under key) R last tag e (F R c)),
+          subst (λ (Q : Run). SealEnds (empty_check (length Q.body)) (u.under key) Q (Err e) last tag) run (seal_refused (empty_check (length R.body)) (u.under key) R last tag e (F R c)),
         );
       }
 
-  pub opening_unfinished : (bs : List Stretch) (o : Option (Bor (List ℕ))) (p p' : Played) (s s' : Core A B C D u x y z) → o ≡ None → BodyPlayed x y opening under bs p p' s s' → OpeningPlayed x y under bs o p p' Unfinished s
-  opening_unfinished bs o p p' s s' ne B = subst (λ (i : Option (Bor (List ℕ))). OpeningPlayed x y under bs i p p' Unfinished s) (sym ne) λ key a.
+  pub opening_unfinished : (bs : List Stretch) (o : Option (Bor (List ℕ))) (p p' : Played) (s s' : Core A B C D u x y z) → o ≡ None → BodyPlayed opening bs p p' s s' → OpeningPlayed {u = u} bs o p p' Unfinished s
+  opening_unfinished bs o p p' s s' ne B = subst (λ (i : Option (Bor (List ℕ))). OpeningPlayed {u = u} bs i p p' Unfinished s) (sym ne) λ key a.
       let c = B.at key a in
       let l = L key c.taken.key_block in
-      let b = blocks (under key) l opening (run_of key p') c.taken c.out_is in
-      record { header = B.header; body = B.body key a; blocks = b; agrees = agrees opening (under key) l (run_of key p') b; finish = (refl, B.answers key a) }
+      let b = blocks (u.under key) l opening (run_of key p') c.taken c.out_is in
+      record { header = B.header; body = B.body key a; blocks = b; agrees = agrees opening (u.under key) l (run_of key p') b; finish = (refl, B.answers key a) }
 
-  pub opening_accepted : (bs : List Stretch) (o : Option (Bor (List ℕ))) (t : Bor (List ℕ)) (p p₁ p₂ : Played) (s s₁ : Core A B C D u x y z) (last g : List ℕ) (n j : ℕ) → o ≡ Some t → BodyPlayed x y opening under bs p p₁ s s₁
-      → ((R : Run) → CoreAt x y opening under R s₁ → OpenedBy (end_check (length R.body) (length t.now)) (under R.key) R t.now last (Ok n)) → p₂.header ≡ p₁.header → p₂.body ≡ p₁.body → vec_items p₂.out ≡ vec_items p₁.out ++ g
-      → g ≡ take j last → j ≡ n → vec_items p₂.answers ≡ vec_items p₁.answers ++ Finish (Ok n) ∷ [] → OpeningPlayed x y under bs o p p₂ (Opened last) s
-  opening_accepted bs o t p p₁ p₂ s s₁ last g n j te B F he be oe ge je ae = subst (λ (i : Option (Bor (List ℕ))). OpeningPlayed x y under bs i p p₂ (Opened last) s) (sym te) λ key a.
+  pub opening_accepted : (bs : List Stretch) (o : Option (Bor (List ℕ))) (t : Bor (List ℕ)) (p p₁ p₂ : Played) (s s₁ : Core A B C D u x y z) (last g : List ℕ) (n j : ℕ) → o ≡ Some t → BodyPlayed opening bs p p₁ s s₁
+      → ((R : Run) → CoreAt opening R s₁ → OpenedBy (end_check (length R.body) (length t.now)) (u.under R.key) R t.now last (Ok n)) → p₂.header ≡ p₁.header → p₂.body ≡ p₁.body → vec_items p₂.out ≡ vec_items p₁.out ++ g
+      → g ≡ take j last → j ≡ n → vec_items p₂.answers ≡ vec_items p₁.answers ++ Finish (Ok n) ∷ [] → OpeningPlayed {u = u} bs o p p₂ (Opened last) s
+  opening_accepted bs o t p p₁ p₂ s s₁ last g n j te B F he be oe ge je ae = subst (λ (i : Option (Bor (List ℕ))). OpeningPlayed {u = u} bs i p p₂ (Opened last) s) (sym te) λ key a.
       let c = B.at key a in
       let l = L key c.taken.key_block in
       let R = run_of key p₁ in
-      let q = open_accepted (end_check (length R.body) (length t.now)) (under key) R t.now last n (F R c) in
-      let hs : held R ≡ held_of (length R.body) = held_same x y opening under L R s₁ c in
+      let q = open_accepted (end_check (length R.body) (length t.now)) (u.under key) R t.now last n (F R c) in
+      let hs : held R ≡ held_of (length R.body) = held_same opening L R s₁ c in
       let gh : g ≡ take (held R) last = ge ∙ ap (λ i. take i last) (je ∙ q.1.0) in
       let run : finished R (take (held R) last) ≡ run_of key p₂ = cc in
-      let b : Blocks opening (under key) (run_of key p₂) = subst (Blocks opening (under key)) run q.1.1.blocks in
+      let b : Blocks opening (u.under key) (run_of key p₂) = subst (Blocks opening (u.under key)) run q.1.1.blocks in
       let nh : n ≡ held_of (length R.body) = q.1.0 ∙ hs in
-      let ends : OpenEnds (end_check (length R.body) (length t.now)) (under key) (finished R (take (held R) last)) t.now (Ok n) last =
-      subst (λ (i : Option (Placed SessionFault)). OpenEnds i (under key) (finished R (take (held R) last)) t.now (Ok n) last) (sym q.0) (nh, q.1.1.seals, q.1.1.only, subst (λ (i : ℕ). drop i last ≡ replicate (16 - i) 0) (sym q.1.0) q.1.1.zeros) in
+      let ends : OpenEnds (end_check (length R.body) (length t.now)) (u.under key) (finished R (take (held R) last)) t.now (Ok n) last =
+      subst (λ (i : Option (Placed SessionFault)). OpenEnds i (u.under key) (finished R (take (held R) last)) t.now (Ok n) last) (sym q.0) (nh, q.1.1.seals, q.1.1.only, subst (λ (i : ℕ). drop i last ≡ replicate (16 - i) 0) (sym q.1.0) q.1.1.zeros) in
       record {
         header = ap vec_items he ∙ B.header;
         body = ap vec_items be ∙ B.body key a;
         blocks = b;
-        agrees = agrees opening (under key) l (run_of key p₂) b;
+        agrees = agrees opening (u.under key) l (run_of key p₂) b;
         finish = (
           Ok n,
           last,
           refl,
           ae ∙ ap (λ i. i ++ Finish (Ok n) ∷ []) (B.answers key a),
-          subst (λ (Q : Run). OpenEnds (end_check (length Q.body) (length t.now)) (under key) Q t.now (Ok n) last) run ends,
+          subst (λ (Q : Run). OpenEnds (end_check (length Q.body) (length t.now)) (u.under key) Q t.now (Ok n) last) run ends,
         );
       }
 
-  pub opening_refused : (bs : List Stretch) (o : Option (Bor (List ℕ))) (t : Bor (List ℕ)) (p p₁ p₂ : Played) (s s₁ : Core A B C D u x y z) (last : List ℕ) (e : Placed SessionFault) → o ≡ Some t → BodyPlayed x y opening under bs p p₁ s s₁
-      → ((R : Run) → CoreAt x y opening under R s₁ → OpenedBy (end_check (length R.body) (length t.now)) (under R.key) R t.now last (Err e)) → p₂.header ≡ p₁.header → p₂.body ≡ p₁.body → p₂.out ≡ p₁.out
-      → vec_items p₂.answers ≡ vec_items p₁.answers ++ Finish (Err e) ∷ [] → OpeningPlayed x y under bs o p p₂ (Opened last) s
-  opening_refused bs o t p p₁ p₂ s s₁ last e te B F he be oe ae = subst (λ (i : Option (Bor (List ℕ))). OpeningPlayed x y under bs i p p₂ (Opened last) s) (sym te) λ key a.
+  pub opening_refused : (bs : List Stretch) (o : Option (Bor (List ℕ))) (t : Bor (List ℕ)) (p p₁ p₂ : Played) (s s₁ : Core A B C D u x y z) (last : List ℕ) (e : Placed SessionFault) → o ≡ Some t → BodyPlayed opening bs p p₁ s s₁
+      → ((R : Run) → CoreAt opening R s₁ → OpenedBy (end_check (length R.body) (length t.now)) (u.under R.key) R t.now last (Err e)) → p₂.header ≡ p₁.header → p₂.body ≡ p₁.body → p₂.out ≡ p₁.out
+      → vec_items p₂.answers ≡ vec_items p₁.answers ++ Finish (Err e) ∷ [] → OpeningPlayed {u = u} bs o p p₂ (Opened last) s
+  opening_refused bs o t p p₁ p₂ s s₁ last e te B F he be oe ae = subst (λ (i : Option (Bor (List ℕ))). OpeningPlayed {u = u} bs i p p₂ (Opened last) s) (sym te) λ key a.
       let c = B.at key a in
       let l = L key c.taken.key_block in
       let R = run_of key p₁ in
       let run : R ≡ run_of key p₂ = cc in
-      let b : Blocks opening (under key) (run_of key p₂) = subst (Blocks opening (under key)) run (blocks (under key) l opening R c.taken c.out_is) in
+      let b : Blocks opening (u.under key) (run_of key p₂) = subst (Blocks opening (u.under key)) run (blocks (u.under key) l opening R c.taken c.out_is) in
       record {
         header = ap vec_items he ∙ B.header;
         body = ap vec_items be ∙ B.body key a;
         blocks = b;
-        agrees = agrees opening (under key) l (run_of key p₂) b;
+        agrees = agrees opening (u.under key) l (run_of key p₂) b;
         finish = (
           Err e,
           last,
           refl,
           ae ∙ ap (λ i. i ++ Finish (Err e) ∷ []) (B.answers key a),
-          subst (λ (Q : Run). OpenEnds (end_check (length Q.body) (length t.now)) (under key) Q t.now (Err e) last) run (open_refused (end_check (length R.body) (length t.now)) (under key) R t.now last e (F R c)),
+          subst (λ (Q : Run). OpenEnds (end_check (length Q.body) (length t.now)) (u.under key) Q t.now (Err e) last) run (open_refused (end_check (length R.body) (length t.now)) (u.under key) R t.now last e (F R c)),
         );
       }
 
 -- from new on: p is the empty log, and s the new heading
-module _ {A B C D : Type 0} {u : suite.Ghosts A B C D} (x : permutation.Ghosts B) (y : hash.Ghosts C) (z : digest.Ghosts D) (under : List ℕ → Functions) (key : List ℕ) (hs : List Stretch) (p p₁ : Played) (s s₁ : Heading A B C D u x y z)
-    (none : (vec_items p.header ≡ []) × (vec_items p.body ≡ []) × (vec_items p.out ≡ []) × (vec_items p.answers ≡ [])) (new : HeadingAt x y z under (fresh key) s) (played : HeaderPlayed x y z under hs p p₁ s s₁) where
-  begun : HeadingAt x y z under (run_of key p) s
-  begun = let h = none.0 in let b = none.1 in let o = none.2 in let run : fresh key ≡ run_of key p = cc in subst (λ (R : Run). HeadingAt x y z under R s) run new
+module _ {A B C D : Type 0} {u : suite.Ghosts A B C D} {x : permutation.Ghosts B} {y : hash.Ghosts C} {z : digest.Ghosts D} (key : List ℕ) (hs : List Stretch) (p p₁ : Played) (s s₁ : Heading A B C D u x y z)
+    (none : (vec_items p.header ≡ []) × (vec_items p.body ≡ []) × (vec_items p.out ≡ []) × (vec_items p.answers ≡ [])) (new : HeadingAt (fresh key) s) (played : HeaderPlayed hs p p₁ s s₁) where
+  begun : HeadingAt (run_of key p) s
+  begun = let h = none.0 in let b = none.1 in let o = none.2 in let run : fresh key ≡ run_of key p = cc in subst (λ (R : Run). HeadingAt R s) run new
 
-  headed_at : HeadingAt x y z under (run_of key p₁) s₁
+  headed_at : HeadingAt (run_of key p₁) s₁
   headed_at = played.at key begun
 
   headers_are : vec_items p₁.header ≡ headers_taken [] hs
@@ -187,12 +187,12 @@ module _ {A B C D : Type 0} {u : suite.Ghosts A B C D} (x : permutation.Ghosts B
   answers_are : vec_items p₁.answers ≡ header_answers [] hs
   answers_are = played.answers key begun ∙ ap₂ (λ before H. before ++ header_answers H hs) none.3 none.0
 
-  pub sealing_course : (bs : List Stretch) (fin : Bool) (c : Core A B C D u x y z) → ((R : Run) → HeadingAt x y z under R s₁ → CoreAt x y sealing under R c) → (r : Result (Played × End) AllocError)
-      → IfOk r (λ q. SealingPlayed x y under bs fin p₁ q.0 q.1 c) → IfOk r (λ q. SealPromise under key (headers_taken [] hs) [] (header_answers [] hs) bs fin q.0 q.1)
+  pub sealing_course : (bs : List Stretch) (fin : Bool) (c : Core A B C D u x y z) → ((R : Run) → HeadingAt R s₁ → CoreAt sealing R c) → (r : Result (Played × End) AllocError)
+      → IfOk r (λ q. SealingPlayed {u = u} bs fin p₁ q.0 q.1 c) → IfOk r (λ q. SealPromise u.under key (headers_taken [] hs) [] (header_answers [] hs) bs fin q.0 q.1)
   sealing_course bs fin c start r m =
-      IfOk-weaker r _ _ (λ q a. subst (λ (H : List ℕ). SealPromise under key H [] (header_answers [] hs) bs fin q.0 q.1) headers_are (subst (λ (M : List ℕ). SealPromise under key (vec_items p₁.header) M (header_answers [] hs) bs fin q.0 q.1) headed_at.no_body (subst (λ (before : List Answer). SealPromise under key (vec_items p₁.header) (vec_items p₁.body) before bs fin q.0 q.1) answers_are (a key (start (run_of key p₁) headed_at))))) m
+      IfOk-weaker r _ _ (λ q a. subst (λ (H : List ℕ). SealPromise u.under key H [] (header_answers [] hs) bs fin q.0 q.1) headers_are (subst (λ (M : List ℕ). SealPromise u.under key (vec_items p₁.header) M (header_answers [] hs) bs fin q.0 q.1) headed_at.no_body (subst (λ (before : List Answer). SealPromise u.under key (vec_items p₁.header) (vec_items p₁.body) before bs fin q.0 q.1) answers_are (a key (start (run_of key p₁) headed_at))))) m
 
-  pub opening_course : (bs : List Stretch) (tag : Option (Bor (List ℕ))) (c : Core A B C D u x y z) → ((R : Run) → HeadingAt x y z under R s₁ → CoreAt x y opening under R c) → (r : Result (Played × End) AllocError)
-      → IfOk r (λ q. OpeningPlayed x y under bs tag p₁ q.0 q.1 c) → IfOk r (λ q. OpenPromise under key (headers_taken [] hs) [] (header_answers [] hs) bs (tag_of tag) q.0 q.1)
+  pub opening_course : (bs : List Stretch) (tag : Option (Bor (List ℕ))) (c : Core A B C D u x y z) → ((R : Run) → HeadingAt R s₁ → CoreAt opening R c) → (r : Result (Played × End) AllocError)
+      → IfOk r (λ q. OpeningPlayed {u = u} bs tag p₁ q.0 q.1 c) → IfOk r (λ q. OpenPromise u.under key (headers_taken [] hs) [] (header_answers [] hs) bs (tag_of tag) q.0 q.1)
   opening_course bs tag c start r m =
-      IfOk-weaker r _ _ (λ q a. subst (λ (H : List ℕ). OpenPromise under key H [] (header_answers [] hs) bs (tag_of tag) q.0 q.1) headers_are (subst (λ (M : List ℕ). OpenPromise under key (vec_items p₁.header) M (header_answers [] hs) bs (tag_of tag) q.0 q.1) headed_at.no_body (subst (λ (before : List Answer). OpenPromise under key (vec_items p₁.header) (vec_items p₁.body) before bs (tag_of tag) q.0 q.1) answers_are (a key (start (run_of key p₁) headed_at))))) m
+      IfOk-weaker r _ _ (λ q a. subst (λ (H : List ℕ). OpenPromise u.under key H [] (header_answers [] hs) bs (tag_of tag) q.0 q.1) headers_are (subst (λ (M : List ℕ). OpenPromise u.under key (vec_items p₁.header) M (header_answers [] hs) bs (tag_of tag) q.0 q.1) headed_at.no_body (subst (λ (before : List Answer). OpenPromise u.under key (vec_items p₁.header) (vec_items p₁.body) before bs (tag_of tag) q.0 q.1) answers_are (a key (start (run_of key p₁) headed_at))))) m

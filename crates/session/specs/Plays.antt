@@ -85,8 +85,8 @@ CoursePlayed (Seal bodies fin) under key hs p e = SealPromise under key (headers
 CoursePlayed (Open bodies tag) under key hs p e = OpenPromise under key (headers_taken [] hs) [] (header_answers [] hs) bodies.now (tag_of tag) p e
 
 -- the same from where a session stood when its body calls began
-abbrev pub SealingPlayed : {A B C D : Type 0} {u : suite.Ghosts A B C D} {z : digest.Ghosts D} → (x : permutation.Ghosts B) → (y : hash.Ghosts C) → (List ℕ → Functions) → List Stretch → Bool → (p p' : Played) → End → Core A B C D u x y z → Type 0
-SealingPlayed x y under bs fin p p' e s = (key : List ℕ) → CoreAt x y sealing under (run_of key p) s → SealPromise under key (vec_items p.header) (vec_items p.body) (vec_items p.answers) bs fin p' e
+abbrev pub SealingPlayed : {A B C D : Type 0} {u : suite.Ghosts A B C D} {x : permutation.Ghosts B} {y : hash.Ghosts C} {z : digest.Ghosts D} → List Stretch → Bool → (p p' : Played) → End → Core A B C D u x y z → Type 0
+SealingPlayed {u = u} bs fin p p' e s = (key : List ℕ) → CoreAt sealing (run_of key p) s → SealPromise u.under key (vec_items p.header) (vec_items p.body) (vec_items p.answers) bs fin p' e
 
-abbrev pub OpeningPlayed : {A B C D : Type 0} {u : suite.Ghosts A B C D} {z : digest.Ghosts D} → (x : permutation.Ghosts B) → (y : hash.Ghosts C) → (List ℕ → Functions) → List Stretch → Option (Bor (List ℕ)) → (p p' : Played) → End → Core A B C D u x y z → Type 0
-OpeningPlayed x y under bs tag p p' e s = (key : List ℕ) → CoreAt x y opening under (run_of key p) s → OpenPromise under key (vec_items p.header) (vec_items p.body) (vec_items p.answers) bs (tag_of tag) p' e
+abbrev pub OpeningPlayed : {A B C D : Type 0} {u : suite.Ghosts A B C D} {x : permutation.Ghosts B} {y : hash.Ghosts C} {z : digest.Ghosts D} → List Stretch → Option (Bor (List ℕ)) → (p p' : Played) → End → Core A B C D u x y z → Type 0
+OpeningPlayed {u = u} bs tag p p' e s = (key : List ℕ) → CoreAt opening (run_of key p) s → OpenPromise u.under key (vec_items p.header) (vec_items p.body) (vec_items p.answers) bs (tag_of tag) p' e

@@ -18,7 +18,7 @@ impl<S: Suite> Core<S> {
         input: &[u8],
         out: &mut [u8],
     ) -> Result<(usize, usize), Placed<SessionFault>>
-        ensures { (R : Run) → CoreAt S.Permutation.Permutation S.ChainingHash.ChainingHash W.Way.way S.Suite.under R self.old → BodyBy (body_check (length R.body) (held R) (length input.now) (length out.old)) S.Permutation.Permutation S.ChainingHash.ChainingHash W.Way.way S.Suite.under R input.now out.old out.new self.old self.new result }
+        ensures { (R : Run) → CoreAt W.Way.way R self.old → BodyBy (body_check (length R.body) (held R) (length input.now) (length out.old)) W.Way.way R input.now out.old out.new self.old self.new result }
     {
         if input.len() > BODY_MOST - self.total {
             return Err(Placed {
@@ -63,7 +63,7 @@ impl<S: Suite> Sealing<S> {
         input: &[u8],
         out: &mut [u8],
     ) -> Result<(usize, usize), Placed<SessionFault>>
-        ensures { (R : Run) → CoreAt S.Permutation.Permutation S.ChainingHash.ChainingHash sealing S.Suite.under R self.old.core → BodyBy (body_check (length R.body) (held R) (length input.now) (length out.old)) S.Permutation.Permutation S.ChainingHash.ChainingHash sealing S.Suite.under R input.now out.old out.new self.old.core self.new.core result }
+        ensures { (R : Run) → CoreAt sealing R self.old.core → BodyBy (body_check (length R.body) (held R) (length input.now) (length out.old)) sealing R input.now out.old out.new self.old.core self.new.core result }
     {
         self.core.body::<Seal>(input, out)
     }
@@ -76,7 +76,7 @@ impl<S: Suite> Opening<S> {
         input: &[u8],
         out: &mut [u8],
     ) -> Result<(usize, usize), Placed<SessionFault>>
-        ensures { (R : Run) → CoreAt S.Permutation.Permutation S.ChainingHash.ChainingHash opening S.Suite.under R self.old.core → BodyBy (body_check (length R.body) (held R) (length input.now) (length out.old)) S.Permutation.Permutation S.ChainingHash.ChainingHash opening S.Suite.under R input.now out.old out.new self.old.core self.new.core result }
+        ensures { (R : Run) → CoreAt opening R self.old.core → BodyBy (body_check (length R.body) (held R) (length input.now) (length out.old)) opening R input.now out.old out.new self.old.core self.new.core result }
     {
         self.core.body::<Open>(input, out)
     }

@@ -33,7 +33,7 @@ impl<S: Suite> Core<S> {
         tag: &mut [u8; 16],
     ) -> Result<usize, Placed<SessionFault>>
         ensures few { IfOk result (λ n. n ≤ 16) }
-        ensures call { (R : Run) → CoreAt S.Permutation.Permutation S.ChainingHash.ChainingHash sealing S.Suite.under R self → SealedBy (empty_check (length R.body)) (S.Suite.under R.key) R last.new tag.new result }
+        ensures call { (R : Run) → CoreAt sealing R self → SealedBy (empty_check (length R.body)) (S.Suite.under R.key) R last.new tag.new result }
     {
         let Core {
             engine,
@@ -72,7 +72,7 @@ impl<S: Suite> Core<S> {
 
     // The last row of an opening under a tag: the block that it gives, and whether the opening passes its tests.
     fn verdict(&self, tag: &[u8; 16]) -> ([u8; 16], bool)
-        ensures { (R : Run) → CoreAt S.Permutation.Permutation S.ChainingHash.ChainingHash opening S.Suite.under R self.now → Tested (S.Suite.under R.key) R.header R.body tag.now (rows_of opening (S.Suite.under R.key) R).out result.0 result.1 }
+        ensures { (R : Run) → CoreAt opening R self.now → Tested (S.Suite.under R.key) R.header R.body tag.now (rows_of opening (S.Suite.under R.key) R).out result.0 result.1 }
     {
         let engine = &self.engine;
         let mask = engine.mask(self.total);
@@ -101,7 +101,7 @@ impl<S: Suite> Core<S> {
 
     fn finish_opening(self, tag: &[u8], last: &mut [u8; 16]) -> Result<usize, Placed<SessionFault>>
         ensures few { IfOk result (λ n. n ≤ 16) }
-        ensures call { (R : Run) → CoreAt S.Permutation.Permutation S.ChainingHash.ChainingHash opening S.Suite.under R self → OpenedBy (end_check (length R.body) (length tag.now)) (S.Suite.under R.key) R tag.now last.new result }
+        ensures call { (R : Run) → CoreAt opening R self → OpenedBy (end_check (length R.body) (length tag.now)) (S.Suite.under R.key) R tag.now last.new result }
     {
         *last = [0; 16];
         if self.total == 0 {
@@ -132,7 +132,7 @@ impl<S: Suite> Sealing<S> {
         tag: &mut [u8; 16],
     ) -> Result<usize, Placed<SessionFault>>
         ensures few { IfOk result (λ n. n ≤ 16) }
-        ensures call { (R : Run) → CoreAt S.Permutation.Permutation S.ChainingHash.ChainingHash sealing S.Suite.under R self.core → SealedBy (empty_check (length R.body)) (S.Suite.under R.key) R last.new tag.new result }
+        ensures call { (R : Run) → CoreAt sealing R self.core → SealedBy (empty_check (length R.body)) (S.Suite.under R.key) R last.new tag.new result }
     {
         let Sealing { core } = self;
         core.finish_sealing(last, tag)
@@ -144,7 +144,7 @@ impl<S: Suite> Opening<S> {
     // zeros alone. Answers how many bytes they are.
     pub fn finish(self, tag: &[u8], last: &mut [u8; 16]) -> Result<usize, Placed<SessionFault>>
         ensures few { IfOk result (λ n. n ≤ 16) }
-        ensures call { (R : Run) → CoreAt S.Permutation.Permutation S.ChainingHash.ChainingHash opening S.Suite.under R self.core → OpenedBy (end_check (length R.body) (length tag.now)) (S.Suite.under R.key) R tag.now last.new result }
+        ensures call { (R : Run) → CoreAt opening R self.core → OpenedBy (end_check (length R.body) (length tag.now)) (S.Suite.under R.key) R tag.now last.new result }
     {
         let Opening { core } = self;
         core.finish_opening(tag, last)

@@ -16,13 +16,13 @@ use suite::{HeaderDigest, Keyed, Suite};
 impl<S: Suite> Heading<S> {
     // A new session under the key that is in the place.
     pub fn new(place: &KeyPlace) -> Heading<S>
-        ensures { HeadingAt S.Permutation.Permutation S.ChainingHash.ChainingHash S.HeaderDigest.HeaderDigest S.Suite.under (fresh place.now.bytes) result }
+        ensures { HeadingAt (fresh place.now.bytes) result }
     {
         Heading::under(place.bytes)
     }
 
     fn under(key: [u8; 16]) -> Heading<S>
-        ensures { HeadingAt S.Permutation.Permutation S.ChainingHash.ChainingHash S.HeaderDigest.HeaderDigest S.Suite.under (fresh key) result }
+        ensures { HeadingAt (fresh key) result }
     {
         let Keyed {
             permutation,
@@ -39,7 +39,7 @@ impl<S: Suite> Heading<S> {
 
     // Adds bytes to the header.
     pub fn header(&mut self, p: &[u8]) -> Result<(), Placed<SessionFault>>
-        ensures { (R : Run) → HeadingAt S.Permutation.Permutation S.ChainingHash.ChainingHash S.HeaderDigest.HeaderDigest S.Suite.under R self.old → HeaderBy (header_check (length R.header) (length p.now)) S.Permutation.Permutation S.ChainingHash.ChainingHash S.HeaderDigest.HeaderDigest S.Suite.under R p.now self.old self.new result }
+        ensures { (R : Run) → HeadingAt R self.old → HeaderBy (header_check (length R.header) (length p.now)) R p.now self.old self.new result }
     {
         if p.len() > HEADER_MOST - self.count {
             return Err(Placed {
@@ -54,7 +54,7 @@ impl<S: Suite> Heading<S> {
 
     // Starts the body of a sealing.
     pub fn seal(self) -> Sealing<S>
-        ensures { (R : Run) → HeadingAt S.Permutation.Permutation S.ChainingHash.ChainingHash S.HeaderDigest.HeaderDigest S.Suite.under R self → CoreAt S.Permutation.Permutation S.ChainingHash.ChainingHash sealing S.Suite.under R result.core }
+        ensures { (R : Run) → HeadingAt R self → CoreAt sealing R result.core }
     {
         Sealing {
             core: self.start::<Seal>(),
@@ -63,7 +63,7 @@ impl<S: Suite> Heading<S> {
 
     // Starts the body of an opening.
     pub fn open(self) -> Opening<S>
-        ensures { (R : Run) → HeadingAt S.Permutation.Permutation S.ChainingHash.ChainingHash S.HeaderDigest.HeaderDigest S.Suite.under R self → CoreAt S.Permutation.Permutation S.ChainingHash.ChainingHash opening S.Suite.under R result.core }
+        ensures { (R : Run) → HeadingAt R self → CoreAt opening R result.core }
     {
         Opening {
             core: self.start::<Open>(),
@@ -71,7 +71,7 @@ impl<S: Suite> Heading<S> {
     }
 
     fn start<W: Way>(self) -> Core<S>
-        ensures { (R : Run) → HeadingAt S.Permutation.Permutation S.ChainingHash.ChainingHash S.HeaderDigest.HeaderDigest S.Suite.under R self → CoreAt S.Permutation.Permutation S.ChainingHash.ChainingHash W.Way.way S.Suite.under R result }
+        ensures { (R : Run) → HeadingAt R self → CoreAt W.Way.way R result }
     {
         let Heading {
             permutation,

@@ -37,7 +37,7 @@ fn play_sealing<S: Suite>(
     finish: bool,
     mut log: Played,
 ) -> Result<(Played, End), AllocError>
-    ensures { IfOk result (λ p. SealingPlayed S.Permutation.Permutation S.ChainingHash.ChainingHash S.Suite.under bodies.now finish log p.0 p.1 sealing.core) }
+    ensures { IfOk result (λ p. SealingPlayed bodies.now finish log p.0 p.1 sealing.core) }
 {
     let Sealing { mut core } = sealing;
     body_calls::<S, Seal>(heap, &mut core, bodies, &mut log)?;
@@ -67,7 +67,7 @@ fn play_opening<S: Suite>(
     tag: Option<&[u8]>,
     mut log: Played,
 ) -> Result<(Played, End), AllocError>
-    ensures { IfOk result (λ p. OpeningPlayed S.Permutation.Permutation S.ChainingHash.ChainingHash S.Suite.under bodies.now tag.entry log p.0 p.1 opening.core) }
+    ensures { IfOk result (λ p. OpeningPlayed bodies.now tag.entry log p.0 p.1 opening.core) }
 {
     let Opening { mut core } = opening;
     body_calls::<S, Open>(heap, &mut core, bodies, &mut log)?;

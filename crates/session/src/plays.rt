@@ -15,7 +15,7 @@ pub(crate) fn header_call<S: Suite>(
     stretch: Stretch<'_>,
     log: &mut Played,
 ) -> Result<(), AllocError>
-    ensures { OnOk result (HeaderPlayed S.Permutation.Permutation S.ChainingHash.ChainingHash S.HeaderDigest.HeaderDigest S.Suite.under (stretch.entry ∷ []) log.old log.new heading.old heading.new) }
+    ensures { OnOk result (HeaderPlayed (stretch.entry ∷ []) log.old log.new heading.old heading.new) }
 {
     match heading.header(stretch.bytes) {
         Ok(()) => {
@@ -36,7 +36,7 @@ pub(crate) fn header_calls<S: Suite>(
     stretches: &[Stretch<'_>],
     log: &mut Played,
 ) -> Result<(), AllocError>
-    ensures { OnOk result (HeaderPlayed S.Permutation.Permutation S.ChainingHash.ChainingHash S.HeaderDigest.HeaderDigest S.Suite.under stretches.now log.old log.new heading.old heading.new) }
+    ensures { OnOk result (HeaderPlayed stretches.now log.old log.new heading.old heading.new) }
 {
     for stretch in stretches {
         header_call(heading, *stretch, log)?;
@@ -51,7 +51,7 @@ fn body_call<S: Suite, W: Way>(
     stretch: Stretch<'_>,
     log: &mut Played,
 ) -> Result<(), AllocError>
-    ensures { OnOk result (BodyPlayed S.Permutation.Permutation S.ChainingHash.ChainingHash W.Way.way S.Suite.under (stretch.entry ∷ []) log.old log.new core.old core.new) }
+    ensures { OnOk result (BodyPlayed W.Way.way (stretch.entry ∷ []) log.old log.new core.old core.new) }
 {
     let mut buffer = vec![in heap; 0; stretch.room]?;
     match core.body::<W>(stretch.bytes, &mut buffer) {
@@ -76,7 +76,7 @@ pub(crate) fn body_calls<S: Suite, W: Way>(
     stretches: &[Stretch<'_>],
     log: &mut Played,
 ) -> Result<(), AllocError>
-    ensures { OnOk result (BodyPlayed S.Permutation.Permutation S.ChainingHash.ChainingHash W.Way.way S.Suite.under stretches.now log.old log.new core.old core.new) }
+    ensures { OnOk result (BodyPlayed W.Way.way stretches.now log.old log.new core.old core.new) }
 {
     for stretch in stretches {
         body_call::<S, W>(heap, core, *stretch, log)?;
