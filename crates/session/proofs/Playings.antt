@@ -9,7 +9,8 @@ use Rattle.session.specs.declared.logs.Played.{Played}
 use Rattle.session.specs.declared.script.Answer.TheVariants.{Header}
 use Rattle.session.specs.declared.script.Stretch.{Stretch}
 use Rattle.session.specs.declared.types.Heading.{Heading}
-use Rattle.session.specs.declared.types.Core.{Core}
+use Rattle.session.specs.declared.rows.Way as way
+use Rattle.session.specs.declared.types.Session.{Session}
 use Rattle.session.specs.Calls.{answered}
 use Rattle.session.specs.Directions.{Direction}
 use Rattle.session.specs.Sessions.{header_check}
@@ -50,12 +51,12 @@ module _ {A B C D : Type 0} {u : suite.Ghosts A B C D} {x : permutation.Ghosts B
             ∙ ap (λ bs. vec_items p.answers ++ bs) (sym (header_answers_append (vec_items p.header) (take i ts) (get_or ts i d ∷ [])));
       }
 
-module _ {A B C D : Type 0} {u : suite.Ghosts A B C D} {x : permutation.Ghosts B} {y : hash.Ghosts C} {z : digest.Ghosts D} (w : Direction) where
-  pub bodies_none : (p : Played) (s : Core A B C D u x y z) → BodyPlayed w [] p p s s
+module _ {A W B C D : Type 0} {u : suite.Ghosts A B C D} {x : permutation.Ghosts B} {y : hash.Ghosts C} {z : digest.Ghosts D} {w : way.Ghosts W} where
+  pub bodies_none : (p : Played) (s : Session A W B C D u x y z w) → BodyPlayed [] p p s s
   bodies_none p s = record { at = λ key a. a; header = refl; body = λ key a. refl; answers = λ key a. sym (append-nil (vec_items p.answers)) }
 
-  pub bodies_more : (ts : List Stretch) (i : ℕ) (d : Stretch) (p p' p'' : Played) (s s' s'' : Core A B C D u x y z) → i < length ts → BodyPlayed w (take i ts) p p' s s' → BodyPlayed w (get_or ts i d ∷ []) p' p'' s' s''
-      → BodyPlayed w (take (i + 1) ts) p p'' s s''
+  pub bodies_more : (ts : List Stretch) (i : ℕ) (d : Stretch) (p p' p'' : Played) (s s' s'' : Session A W B C D u x y z w) → i < length ts → BodyPlayed (take i ts) p p' s s' → BodyPlayed (get_or ts i d ∷ []) p' p'' s' s''
+      → BodyPlayed (take (i + 1) ts) p p'' s s''
   bodies_more ts i d p p' p'' s s' s'' l a b =
       rw (take_more ts i d l) record {
         at = λ key h. b.at key (a.at key h);

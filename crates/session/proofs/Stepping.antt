@@ -12,11 +12,12 @@ use Rattle.session.specs.declared.logs.Played.{Played}
 use Rattle.session.specs.declared.script.Answer.TheVariants.{Header, Body}
 use Rattle.session.specs.declared.script.Stretch.{Stretch}
 use Rattle.session.specs.declared.types.Heading.{Heading}
-use Rattle.session.specs.declared.types.Core.{Core}
+use Rattle.session.specs.declared.rows.Way as way
+use Rattle.session.specs.declared.types.Session.{Session}
 use Rattle.session.specs.Calls.{answered}
 use Rattle.session.specs.Directions.{Direction}
 use Rattle.session.specs.Runs.{Run, headed, bodied}
-use Rattle.session.specs.Sessions.{HeadingAt, HeaderBy, header_check, CoreAt, BodyBy, BodyTaken, body_check, held, writes}
+use Rattle.session.specs.Sessions.{HeadingAt, HeaderBy, header_check, SessionAt, BodyBy, BodyTaken, body_check, held, writes}
 use Rattle.session.specs.Scripts.{run_of, taken, held_of, body_check_of}
 use Rattle.session.specs.Playing.{HeaderPlayed, BodyPlayed}
 use Rattle.session.proofs.Calling.{ok_err}
@@ -59,35 +60,35 @@ module _ {A B C D : Type 0} {u : suite.Ghosts A B C D} {x : permutation.Ghosts B
         answers = λ key a. ae ∙ ap (λ o. vec_items p.answers ++ Header (answered o tt) ∷ []) (sym (refused c (run_of key p) t.bytes.now s s' e (h key a)).0);
       }
 
-module _ {A B C D : Type 0} {u : suite.Ghosts A B C D} {x : permutation.Ghosts B} {y : hash.Ghosts C} {z : digest.Ghosts D} (w : Direction) (L : (key : List ℕ) → Block key → Lawful (u.under key)) where
+module _ {A W B C D : Type 0} {u : suite.Ghosts A B C D} {x : permutation.Ghosts B} {y : hash.Ghosts C} {z : digest.Ghosts D} {w : way.Ghosts W} (L : (key : List ℕ) → Block key → Lawful (u.under key)) where
   -- the bytes held back, by the rule and by the run
-  pub held_same : (R : Run) (s : Core A B C D u x y z) → CoreAt w R s → held R ≡ held_of (length R.body)
-  held_same R s a = let o = out_length (u.under R.key) (L R.key a.taken.key_block) w R a.taken.header_bytes a.taken.body_bytes a.out_is in omega arith
+  pub held_same : (R : Run) (s : Session A W B C D u x y z w) → SessionAt R s → held R ≡ held_of (length R.body)
+  held_same R s a = let o = out_length (u.under R.key) (L R.key a.taken.key_block) w.way R a.taken.header_bytes a.taken.body_bytes a.out_is in omega arith
 
-  body_heeds : (o : Option (Placed SessionFault)) (R : Run) (P b b' : List ℕ) (s s' : Core A B C D u x y z) (r : ℕ × ℕ) → BodyBy o w R P b b' s s' (Ok r) → (o ≡ None) × BodyTaken w R P b b' s' (Ok r)
+  body_heeds : (o : Option (Placed SessionFault)) (R : Run) (P b b' : List ℕ) (s s' : Session A W B C D u x y z w) (r : ℕ × ℕ) → BodyBy o R P b b' s s' (Ok r) → (o ≡ None) × BodyTaken R P b b' s' (Ok r)
   body_heeds None R P b b' s s' r h = (refl, h)
   body_heeds (Some e) R P b b' s s' r h = absurd (ok_err h.0)
 
-  body_refuses : (o : Option (Placed SessionFault)) (R : Run) (P b b' : List ℕ) (s s' : Core A B C D u x y z) (e : Placed SessionFault) → BodyBy o w R P b b' s s' (Err e) → (o ≡ Some e) × (s' ≡ s)
+  body_refuses : (o : Option (Placed SessionFault)) (R : Run) (P b b' : List ℕ) (s s' : Session A W B C D u x y z w) (e : Placed SessionFault) → BodyBy o R P b b' s s' (Err e) → (o ≡ Some e) × (s' ≡ s)
   body_refuses None R P b b' s s' e h = absurd (ok_err (sym h.answer))
   body_refuses (Some f) R P b b' s s' e h = (cc h.0, h.1)
 
-  module _ (t : Stretch) (p p' : Played) (s s' : Core A B C D u x y z) (b b' : List ℕ) (room : length b ≡ t.room) where
+  module _ (t : Stretch) (p p' : Played) (s s' : Session A W B C D u x y z w) (b b' : List ℕ) (room : length b ≡ t.room) where
     P : List ℕ
     P = t.bytes.now
 
     -- the check of the call, and of the script
-    check_same : (key : List ℕ) → CoreAt w (run_of key p) s → body_check (length (vec_items p.body)) (held (run_of key p)) (length P) (length b) ≡ body_check_of (length (vec_items p.body)) t
+    check_same : (key : List ℕ) → SessionAt (run_of key p) s → body_check (length (vec_items p.body)) (held (run_of key p)) (length P) (length b) ≡ body_check_of (length (vec_items p.body)) t
     unfolding P
     check_same key a = rw (held_same (run_of key p) s a, room)
 
     pub body_heeded : (n m : ℕ) → p'.header ≡ p.header
-        → ((key : List ℕ) → CoreAt w (run_of key p) s → BodyBy (body_check (length (vec_items p.body)) (held (run_of key p)) (length t.bytes.now) (length b)) w (run_of key p) t.bytes.now b b' s s' (Ok (n, m)))
-        → vec_items p'.body ≡ vec_items p.body ++ t.bytes.now → vec_items p'.out ≡ vec_items p.out ++ take n b' → vec_items p'.answers ≡ vec_items p.answers ++ Body (Ok (n, m)) ∷ [] → BodyPlayed w (t ∷ []) p p' s s'
+        → ((key : List ℕ) → SessionAt (run_of key p) s → BodyBy (body_check (length (vec_items p.body)) (held (run_of key p)) (length t.bytes.now) (length b)) (run_of key p) t.bytes.now b b' s s' (Ok (n, m)))
+        → vec_items p'.body ≡ vec_items p.body ++ t.bytes.now → vec_items p'.out ≡ vec_items p.out ++ take n b' → vec_items p'.answers ≡ vec_items p.answers ++ Body (Ok (n, m)) ∷ [] → BodyPlayed (t ∷ []) p p' s s'
     unfolding P
     body_heeded n m he h be oe ae =
         let M = vec_items p.body in
-        let q : (key : List ℕ) → CoreAt w (run_of key p) s → (body_check (length M) (held (run_of key p)) (length P) (length b) ≡ None) × BodyTaken w (run_of key p) P b b' s' (Ok (n, m)) =
+        let q : (key : List ℕ) → SessionAt (run_of key p) s → (body_check (length M) (held (run_of key p)) (length P) (length b) ≡ None) × BodyTaken (run_of key p) P b b' s' (Ok (n, m)) =
         λ key a. body_heeds (body_check (length M) (held (run_of key p)) (length P) (length b)) (run_of key p) P b b' s s' (n, m) (h key a) in
         record {
           at =
@@ -95,7 +96,7 @@ module _ {A B C D : Type 0} {u : suite.Ghosts A B C D} {x : permutation.Ghosts B
               let T = (q key a).1 in
               let ne = pair_first T.answer in
               let run : bodied (run_of key p) P (take (writes (held (run_of key p) + length P)) b') ≡ run_of key p' = cc in
-              subst (λ (R : Run). CoreAt w R s') run T.at;
+              subst (λ (R : Run). SessionAt R s') run T.at;
           header = ap vec_items he;
           body = λ key a. be ∙ ap (λ o. taken o M P) (sym (q key a).0 ∙ check_same key a);
           answers =
@@ -107,16 +108,16 @@ module _ {A B C D : Type 0} {u : suite.Ghosts A B C D} {x : permutation.Ghosts B
         }
 
     pub body_refused : (e : Placed SessionFault) → p'.header ≡ p.header → p'.body ≡ p.body → p'.out ≡ p.out
-        → ((key : List ℕ) → CoreAt w (run_of key p) s → BodyBy (body_check (length (vec_items p.body)) (held (run_of key p)) (length t.bytes.now) (length b)) w (run_of key p) t.bytes.now b b' s s' (Err e))
-        → vec_items p'.answers ≡ vec_items p.answers ++ Body (Err e) ∷ [] → BodyPlayed w (t ∷ []) p p' s s'
+        → ((key : List ℕ) → SessionAt (run_of key p) s → BodyBy (body_check (length (vec_items p.body)) (held (run_of key p)) (length t.bytes.now) (length b)) (run_of key p) t.bytes.now b b' s s' (Err e))
+        → vec_items p'.answers ≡ vec_items p.answers ++ Body (Err e) ∷ [] → BodyPlayed (t ∷ []) p p' s s'
     unfolding P
     body_refused e he be oe h ae =
         let M = vec_items p.body in
-        let q : (key : List ℕ) → CoreAt w (run_of key p) s → (body_check (length M) (held (run_of key p)) (length P) (length b) ≡ Some e) × (s' ≡ s) =
+        let q : (key : List ℕ) → SessionAt (run_of key p) s → (body_check (length M) (held (run_of key p)) (length P) (length b) ≡ Some e) × (s' ≡ s) =
         λ key a. body_refuses (body_check (length M) (held (run_of key p)) (length P) (length b)) (run_of key p) P b b' s s' e (h key a) in
         let run : (key : List ℕ) → run_of key p ≡ run_of key p' = λ key. cc in
         record {
-          at = λ key a. subst (λ (R : Run). CoreAt w R s') (run key) (subst (CoreAt w (run_of key p)) (sym (q key a).1) a);
+          at = λ key a. subst (λ (R : Run). SessionAt R s') (run key) (subst (SessionAt (run_of key p)) (sym (q key a).1) a);
           header = ap vec_items he;
           body = λ key a. ap vec_items be ∙ ap (λ o. taken o M P) (sym (q key a).0 ∙ check_same key a);
           answers = λ key a. ae ∙ ap (λ o. vec_items p.answers ++ Body (answered o (writes (held_of (length M) + length P), held_of (length M) + length P - writes (held_of (length M) + length P))) ∷ []) (sym (q key a).0 ∙ check_same key a);

@@ -12,7 +12,8 @@ use Rattle.suite.specs.declared.Permutation as permutation
 use Rattle.suite.specs.declared.ChainingHash as hash
 use Rattle.suite.specs.declared.HeaderDigest as digest
 use Rattle.session.specs.declared.types.Heading.{Heading}
-use Rattle.session.specs.declared.types.Core.{Core}
+use Rattle.session.specs.declared.rows.Way as way
+use Rattle.session.specs.declared.types.Session.{Session}
 use Rattle.session.specs.Engines.{EngineAt}
 use Rattle.session.specs.Calls.{tag_check}
 use Rattle.session.specs.Directions.{Direction, sealing, opening, picks, turns}
@@ -41,13 +42,13 @@ pub record HeadingAt {A B C D : Type 0} {u : suite.Ghosts A B C D} {p : permutat
 abbrev pub rows_of : (w : Direction) (f : Functions) → Run → State
 rows_of w f R = rows (picks w f.enc f.dec) f.chain (whole R.body) (turns w (start f R.header)) R.body
 
--- the core s of a sealing or an opening stands at the run R
-pub record CoreAt {A B C D : Type 0} {u : suite.Ghosts A B C D} {p : permutation.Ghosts B} {h : hash.Ghosts C} {d : digest.Ghosts D} (w : Direction) (R : Run) (s : Core A B C D u p h d) : Type 0 where
+-- the session s stands at the run R
+pub record SessionAt {A W B C D : Type 0} {u : suite.Ghosts A B C D} {p : permutation.Ghosts B} {h : hash.Ghosts C} {d : digest.Ghosts D} {w : way.Ghosts W} (R : Run) (s : Session A W B C D u p h d w) : Type 0 where
   pub taken : Taken R
   pub engine : EngineAt p h (u.under R.key) R.header s.engine
-  pub x_is : s.lanes.taking ≡ (rows_of w (u.under R.key) R).x
-  pub y_is : s.lanes.giving ≡ (rows_of w (u.under R.key) R).y
-  pub out_is : R.out ≡ (rows_of w (u.under R.key) R).out
+  pub x_is : s.lanes.taking ≡ (rows_of w.way (u.under R.key) R).x
+  pub y_is : s.lanes.giving ≡ (rows_of w.way (u.under R.key) R).y
+  pub out_is : R.out ≡ (rows_of w.way (u.under R.key) R).out
   pub held_is : take s.len s.held ≡ drop (16 * whole R.body) R.body
   pub total_is : s.total ≡ length R.body
 
@@ -72,15 +73,15 @@ body_check taken held more room =
 abbrev pub held : Run → ℕ
 held R = length R.body - length R.out
 
-pub record BodyTaken {A B C D : Type 0} {u : suite.Ghosts A B C D} {p : permutation.Ghosts B} {h : hash.Ghosts C} {d : digest.Ghosts D} (w : Direction) (R : Run) (P o o' : List ℕ) (s' : Core A B C D u p h d) (r : Result (ℕ × ℕ) (Placed SessionFault)) : Type 0 where
+pub record BodyTaken {A W B C D : Type 0} {u : suite.Ghosts A B C D} {p : permutation.Ghosts B} {h : hash.Ghosts C} {d : digest.Ghosts D} {w : way.Ghosts W} (R : Run) (P o o' : List ℕ) (s' : Session A W B C D u p h d w) (r : Result (ℕ × ℕ) (Placed SessionFault)) : Type 0 where
   pub answer : r ≡ Ok (writes (held R + length P), held R + length P - writes (held R + length P))
   pub rest : drop (writes (held R + length P)) o' ≡ drop (writes (held R + length P)) o
-  pub at : CoreAt w (bodied R P (take (writes (held R + length P)) o')) s'
-  pub blocks : Blocks w (u.under R.key) (bodied R P (take (writes (held R + length P)) o'))
+  pub at : SessionAt (bodied R P (take (writes (held R + length P)) o')) s'
+  pub blocks : Blocks w.way (u.under R.key) (bodied R P (take (writes (held R + length P)) o'))
 
-abbrev pub BodyBy : {A B C D : Type 0} {u : suite.Ghosts A B C D} {p : permutation.Ghosts B} {h : hash.Ghosts C} {d : digest.Ghosts D} → Option (Placed SessionFault) → (w : Direction) → Run → (P o o' : List ℕ) → (s s' : Core A B C D u p h d) → Result (ℕ × ℕ) (Placed SessionFault) → Type 0
-BodyBy (Some e) w R P o o' s s' r = (r ≡ Err e) × (s' ≡ s) × (o' ≡ o)
-BodyBy None w R P o o' s s' r = BodyTaken w R P o o' s' r
+abbrev pub BodyBy : {A W B C D : Type 0} {u : suite.Ghosts A B C D} {p : permutation.Ghosts B} {h : hash.Ghosts C} {d : digest.Ghosts D} {w : way.Ghosts W} → Option (Placed SessionFault) → Run → (P o o' : List ℕ) → (s s' : Session A W B C D u p h d w) → Result (ℕ × ℕ) (Placed SessionFault) → Type 0
+BodyBy (Some e) R P o o' s s' r = (r ≡ Err e) × (s' ≡ s) × (o' ≡ o)
+BodyBy None R P o o' s s' r = BodyTaken R P o o' s' r
 
 -- A sealing's finish is refused where no body was taken. It writes zeros into its places l' and t' then. Else it hands out the last
 -- bytes, which were held back, and writes the tag: together the seal of the message taken.

@@ -1,24 +1,24 @@
-// The body call of a sealing and of an opening.
+// The body call, of a sealing as of an opening.
 ghost use Rattle.std.specs.Prelude.{length};
-ghost use Rattle.session.specs.Directions.{opening, sealing};
 ghost use Rattle.session.specs.Runs.{Run};
-ghost use Rattle.session.specs.Sessions.{BodyBy, CoreAt, body_check, held};
+ghost use Rattle.session.specs.Sessions.{BodyBy, SessionAt, body_check, held};
 
 use crate::blocks::joined;
 use crate::checks::BODY_MOST;
-use crate::rows::{Open, Seal, Way};
-use crate::types::{Core, Opening, Sealing};
+use crate::rows::Way;
+use crate::types::Session;
 use fault::kinds::{Placed, SessionFault};
 use suite::Suite;
 
-impl<S: Suite> Core<S> {
-    // Takes `input`, and writes to `out` every whole block that at least one byte follows. Answers the bytes written and the bytes held.
-    pub(crate) fn body<W: Way>(
+impl<S: Suite, W: Way> Session<S, W> {
+    // Takes a stretch of the message, or of an opening's ciphertext, and writes to `out` every whole block that at least one more byte
+    // follows. Answers the bytes written and the bytes held.
+    pub fn body(
         &mut self,
         input: &[u8],
         out: &mut [u8],
     ) -> Result<(usize, usize), Placed<SessionFault>>
-        ensures { (R : Run) → CoreAt W.Way.way R self.old → BodyBy (body_check (length R.body) (held R) (length input.now) (length out.old)) W.Way.way R input.now out.old out.new self.old self.new result }
+        ensures { (R : Run) → SessionAt R self.old → BodyBy (body_check (length R.body) (held R) (length input.now) (length out.old)) R input.now out.old out.new self.old self.new result }
     {
         if input.len() > BODY_MOST - self.total {
             return Err(Placed {
@@ -52,32 +52,5 @@ impl<S: Suite> Core<S> {
         self.len = left;
         self.total += input.len();
         Ok((given, left))
-    }
-}
-
-impl<S: Suite> Sealing<S> {
-    // Takes a stretch of the message, and writes to `out` every whole block of the ciphertext that at least one more byte follows. Answers
-    // the bytes written and the bytes held.
-    pub fn body(
-        &mut self,
-        input: &[u8],
-        out: &mut [u8],
-    ) -> Result<(usize, usize), Placed<SessionFault>>
-        ensures { (R : Run) → CoreAt sealing R self.old.core → BodyBy (body_check (length R.body) (held R) (length input.now) (length out.old)) sealing R input.now out.old out.new self.old.core self.new.core result }
-    {
-        self.core.body::<Seal>(input, out)
-    }
-}
-
-impl<S: Suite> Opening<S> {
-    // The same of a stretch of the ciphertext and blocks of the message.
-    pub fn body(
-        &mut self,
-        input: &[u8],
-        out: &mut [u8],
-    ) -> Result<(usize, usize), Placed<SessionFault>>
-        ensures { (R : Run) → CoreAt opening R self.old.core → BodyBy (body_check (length R.body) (held R) (length input.now) (length out.old)) opening R input.now out.old out.new self.old.core self.new.core result }
-    {
-        self.core.body::<Open>(input, out)
     }
 }

@@ -1,17 +1,17 @@
 // The end of a sealing and of an opening.
 ghost use Rattle.std.specs.Prelude.{◌≡◌, ℕ, ◌≤◌, List, length, IfOk};
 ghost use Rattle.poet.specs.Rows.{size};
-ghost use Rattle.session.specs.Directions.{opening, sealing};
+ghost use Rattle.session.specs.Directions.{opening};
 ghost use Rattle.session.specs.Engines.{EngineAt};
 ghost use Rattle.session.specs.Runs.{Run};
-ghost use Rattle.session.specs.Sessions.{CoreAt, OpenedBy, SealedBy, empty_check, end_check, rows_of};
+ghost use Rattle.session.specs.Sessions.{OpenedBy, SealedBy, SessionAt, empty_check, end_check, rows_of};
 ghost use Rattle.session.specs.Steps.{Tested};
 
 use crate::blocks::same;
 use crate::checks::tag_bytes;
 use crate::engine::Engine;
 use crate::rows::{Open, Seal, closing};
-use crate::types::{Core, Opening, Sealing};
+use crate::types::{Opening, Sealing, Session};
 use fault::kinds::{Placed, SessionFault};
 use poet::complete;
 use suite::{Permutation, Suite};
@@ -26,21 +26,24 @@ impl<S: Suite> Engine<S> {
     }
 }
 
-impl<S: Suite> Core<S> {
-    fn finish_sealing(
+impl<S: Suite> Sealing<S> {
+    // Ends the sealing: the last bytes of the ciphertext go to `last`, with zeros behind them, and the tag to `tag`. Answers how many bytes
+    // they are.
+    pub fn finish(
         self,
         last: &mut [u8; 16],
         tag: &mut [u8; 16],
     ) -> Result<usize, Placed<SessionFault>>
         ensures few { IfOk result (λ n. n ≤ 16) }
-        ensures call { (R : Run) → CoreAt sealing R self → SealedBy (empty_check (length R.body)) (S.Suite.under R.key) R last.new tag.new result }
+        ensures call { (R : Run) → SessionAt R self → SealedBy (empty_check (length R.body)) (S.Suite.under R.key) R last.new tag.new result }
     {
-        let Core {
+        let Session {
             engine,
             lanes,
             held,
             len,
             total,
+            way: _,
         } = self;
         if total == 0 {
             *last = [0; 16];
@@ -69,10 +72,12 @@ impl<S: Suite> Core<S> {
         *tag = complete(&given[len..16], &z);
         Ok(len)
     }
+}
 
-    // The last row of an opening under a tag: the block that it gives, and whether the opening passes its tests.
+impl<S: Suite> Opening<S> {
+    // The last row under a tag: the block that it gives, and whether the opening passes its tests.
     fn verdict(&self, tag: &[u8; 16]) -> ([u8; 16], bool)
-        ensures { (R : Run) → CoreAt opening R self.now → Tested (S.Suite.under R.key) R.header R.body tag.now (rows_of opening (S.Suite.under R.key) R).out result.0 result.1 }
+        ensures { (R : Run) → SessionAt R self.now → Tested (S.Suite.under R.key) R.header R.body tag.now (rows_of opening (S.Suite.under R.key) R).out result.0 result.1 }
     {
         let engine = &self.engine;
         let mask = engine.mask(self.total);
@@ -99,9 +104,11 @@ impl<S: Suite> Core<S> {
         (given, padded & tagged)
     }
 
-    fn finish_opening(self, tag: &[u8], last: &mut [u8; 16]) -> Result<usize, Placed<SessionFault>>
+    // Ends the opening: accepts what was given out, or refuses it. The last bytes of the message go to `last`, with zeros behind them, or
+    // zeros alone. Answers how many bytes they are.
+    pub fn finish(self, tag: &[u8], last: &mut [u8; 16]) -> Result<usize, Placed<SessionFault>>
         ensures few { IfOk result (λ n. n ≤ 16) }
-        ensures call { (R : Run) → CoreAt opening R self → OpenedBy (end_check (length R.body) (length tag.now)) (S.Suite.under R.key) R tag.now last.new result }
+        ensures call { (R : Run) → SessionAt R self → OpenedBy (end_check (length R.body) (length tag.now)) (S.Suite.under R.key) R tag.now last.new result }
     {
         *last = [0; 16];
         if self.total == 0 {
@@ -120,33 +127,5 @@ impl<S: Suite> Core<S> {
         }
         *last = complete(&given[0..self.len], &[0; 16]);
         Ok(self.len)
-    }
-}
-
-impl<S: Suite> Sealing<S> {
-    // Ends the sealing: the last bytes of the ciphertext go to `last`, with zeros behind them, and the tag to `tag`. Answers how many bytes
-    // they are.
-    pub fn finish(
-        self,
-        last: &mut [u8; 16],
-        tag: &mut [u8; 16],
-    ) -> Result<usize, Placed<SessionFault>>
-        ensures few { IfOk result (λ n. n ≤ 16) }
-        ensures call { (R : Run) → CoreAt sealing R self.core → SealedBy (empty_check (length R.body)) (S.Suite.under R.key) R last.new tag.new result }
-    {
-        let Sealing { core } = self;
-        core.finish_sealing(last, tag)
-    }
-}
-
-impl<S: Suite> Opening<S> {
-    // Ends the opening: accepts what was given out, or refuses it. The last bytes of the message go to `last`, with zeros behind them, or
-    // zeros alone. Answers how many bytes they are.
-    pub fn finish(self, tag: &[u8], last: &mut [u8; 16]) -> Result<usize, Placed<SessionFault>>
-        ensures few { IfOk result (λ n. n ≤ 16) }
-        ensures call { (R : Run) → CoreAt opening R self.core → OpenedBy (end_check (length R.body) (length tag.now)) (S.Suite.under R.key) R tag.now last.new result }
-    {
-        let Opening { core } = self;
-        core.finish_opening(tag, last)
     }
 }

@@ -1,16 +1,16 @@
 // The calls of a heading, and the start of a body.
 ghost use Rattle.std.specs.Prelude.{ℕ, List, length};
-ghost use Rattle.session.specs.Directions.{opening, sealing};
 ghost use Rattle.session.specs.Runs.{Run, fresh};
-ghost use Rattle.session.specs.Sessions.{CoreAt, HeaderBy, HeadingAt, header_check};
+ghost use Rattle.session.specs.Sessions.{HeaderBy, HeadingAt, SessionAt, header_check};
 
 use crate::checks::HEADER_MOST;
 use crate::engine::Engine;
 use crate::keys::KeyPlace;
-use crate::rows::{Open, Seal, Way};
-use crate::types::{Core, Heading, Opening, Sealing};
+use crate::rows::Way;
+use crate::types::{Heading, Opening, Sealing, Session};
 use fault::kinds::{Placed, SessionFault};
 use poet::xor;
+use std::marker::PhantomData;
 use suite::{HeaderDigest, Keyed, Suite};
 
 impl<S: Suite> Heading<S> {
@@ -54,24 +54,20 @@ impl<S: Suite> Heading<S> {
 
     // Starts the body of a sealing.
     pub fn seal(self) -> Sealing<S>
-        ensures { (R : Run) → HeadingAt R self → CoreAt sealing R result.core }
+        ensures { (R : Run) → HeadingAt R self → SessionAt R result }
     {
-        Sealing {
-            core: self.start::<Seal>(),
-        }
+        self.start()
     }
 
     // Starts the body of an opening.
     pub fn open(self) -> Opening<S>
-        ensures { (R : Run) → HeadingAt R self → CoreAt opening R result.core }
+        ensures { (R : Run) → HeadingAt R self → SessionAt R result }
     {
-        Opening {
-            core: self.start::<Open>(),
-        }
+        self.start()
     }
 
-    fn start<W: Way>(self) -> Core<S>
-        ensures { (R : Run) → HeadingAt R self → CoreAt W.Way.way R result }
+    pub(crate) fn start<W: Way>(self) -> Session<S, W>
+        ensures { (R : Run) → HeadingAt R self → SessionAt R result }
     {
         let Heading {
             permutation,
@@ -81,7 +77,7 @@ impl<S: Suite> Heading<S> {
         } = self;
         let tau = digest.finish();
         let lanes = W::lanes(tau, xor(tau, S::encode(1)));
-        Core {
+        Session {
             engine: Engine {
                 permutation,
                 hash,
@@ -91,6 +87,7 @@ impl<S: Suite> Heading<S> {
             held: [0; 16],
             len: 0,
             total: 0,
+            way: PhantomData,
         }
     }
 }

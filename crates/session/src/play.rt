@@ -5,7 +5,6 @@ ghost use Rattle.session.specs.Plays.{CoursePlayed, OpeningPlayed, SealingPlayed
 use crate::keys::KeyPlace;
 use crate::logs::Played;
 use crate::plays::{body_calls, header_calls};
-use crate::rows::{Open, Seal};
 use crate::script::{Answer, Course, End, Stretch};
 use crate::types::{Heading, Opening, Sealing};
 use std::alloc::{AllocError, Global};
@@ -32,22 +31,20 @@ pub fn play<S: Suite>(
 
 fn play_sealing<S: Suite>(
     heap: Global,
-    sealing: Sealing<S>,
+    mut sealing: Sealing<S>,
     bodies: &[Stretch<'_>],
     finish: bool,
     mut log: Played,
 ) -> Result<(Played, End), AllocError>
-    ensures { IfOk result (λ p. SealingPlayed bodies.now finish log p.0 p.1 sealing.core) }
+    ensures { IfOk result (λ p. SealingPlayed bodies.now finish log p.0 p.1 sealing) }
 {
-    let Sealing { mut core } = sealing;
-    body_calls::<S, Seal>(heap, &mut core, bodies, &mut log)?;
+    body_calls(heap, &mut sealing, bodies, &mut log)?;
     if !finish {
         return Ok((log, End::Unfinished));
     }
     let mut last = [0; 16];
     let mut tag = [0; 16];
-    let ended = Sealing { core };
-    match ended.finish(&mut last, &mut tag) {
+    match sealing.finish(&mut last, &mut tag) {
         Ok(len) => {
             log.out.extend_from_slice(&last[0..len])?;
             log.answers.push(Answer::Finish(Ok(len)))?;
@@ -62,21 +59,19 @@ fn play_sealing<S: Suite>(
 
 fn play_opening<S: Suite>(
     heap: Global,
-    opening: Opening<S>,
+    mut opening: Opening<S>,
     bodies: &[Stretch<'_>],
     tag: Option<&[u8]>,
     mut log: Played,
 ) -> Result<(Played, End), AllocError>
-    ensures { IfOk result (λ p. OpeningPlayed bodies.now tag.entry log p.0 p.1 opening.core) }
+    ensures { IfOk result (λ p. OpeningPlayed bodies.now tag.entry log p.0 p.1 opening) }
 {
-    let Opening { mut core } = opening;
-    body_calls::<S, Open>(heap, &mut core, bodies, &mut log)?;
+    body_calls(heap, &mut opening, bodies, &mut log)?;
     let Some(tag) = tag else {
         return Ok((log, End::Unfinished));
     };
     let mut last = [0; 16];
-    let ended = Opening { core };
-    match ended.finish(tag, &mut last) {
+    match opening.finish(tag, &mut last) {
         Ok(len) => {
             log.out.extend_from_slice(&last[0..len])?;
             log.answers.push(Answer::Finish(Ok(len)))?;

@@ -5,7 +5,7 @@ ghost use Rattle.session.specs.Playing.{BodyPlayed, HeaderPlayed};
 use crate::logs::Played;
 use crate::rows::Way;
 use crate::script::{Answer, Stretch};
-use crate::types::{Core, Heading};
+use crate::types::{Heading, Session};
 use std::alloc::{AllocError, Global};
 use suite::Suite;
 
@@ -47,14 +47,14 @@ pub(crate) fn header_calls<S: Suite>(
 // One body call, into a buffer of its own.
 fn body_call<S: Suite, W: Way>(
     heap: Global,
-    core: &mut Core<S>,
+    session: &mut Session<S, W>,
     stretch: Stretch<'_>,
     log: &mut Played,
 ) -> Result<(), AllocError>
-    ensures { OnOk result (BodyPlayed W.Way.way (stretch.entry ∷ []) log.old log.new core.old core.new) }
+    ensures { OnOk result (BodyPlayed (stretch.entry ∷ []) log.old log.new session.old session.new) }
 {
     let mut buffer = vec![in heap; 0; stretch.room]?;
-    match core.body::<W>(stretch.bytes, &mut buffer) {
+    match session.body(stretch.bytes, &mut buffer) {
         Ok((given, held)) => {
             log.body.extend_from_slice(stretch.bytes)?;
             buffer.truncate(given);
@@ -72,14 +72,14 @@ fn body_call<S: Suite, W: Way>(
 // Body calls, one after another.
 pub(crate) fn body_calls<S: Suite, W: Way>(
     heap: Global,
-    core: &mut Core<S>,
+    session: &mut Session<S, W>,
     stretches: &[Stretch<'_>],
     log: &mut Played,
 ) -> Result<(), AllocError>
-    ensures { OnOk result (BodyPlayed W.Way.way stretches.now log.old log.new core.old core.new) }
+    ensures { OnOk result (BodyPlayed stretches.now log.old log.new session.old session.new) }
 {
     for stretch in stretches {
-        body_call::<S, W>(heap, core, *stretch, log)?;
+        body_call(heap, session, *stretch, log)?;
     }
     Ok(())
 }

@@ -8,8 +8,8 @@ use crate::blocks::joined_block;
 use poet::xor;
 use suite::{ChainingHash, Permutation};
 
-// A way through the rows.
-pub(crate) trait Way {
+// A way through the rows. It is public because the types of sessions name it, but this module is not: nothing outside implements it.
+pub trait Way {
     ghost way: { Direction };
 
     // The permutation's function that a row uses.
@@ -22,9 +22,9 @@ pub(crate) trait Way {
         ensures giving { result.giving ≡ (turns way (lanes x y)).y };
 }
 
-pub(crate) struct Seal;
+pub struct Seal;
 
-pub(crate) struct Open;
+pub struct Open;
 
 impl Way for Seal {
     ghost way = { sealing };
@@ -58,7 +58,7 @@ impl Way for Open {
 
 // The last block of each sequence: blocks come in at `taking` and go out at `giving`.
 #[derive(Clone, Copy)]
-pub(crate) struct Lanes {
+pub struct Lanes {
     pub(crate) taking: [u8; 16],
     pub(crate) giving: [u8; 16],
 }

@@ -2,7 +2,8 @@
 ghost use Rattle.std.specs.Prelude.{◌≡◌, ◌+◌, ◌-◌, ◌*◌, ◌/◌, ◌≤◌};
 
 use crate::engine::Engine;
-use crate::rows::Lanes;
+use crate::rows::{Lanes, Open, Seal, Way};
+use std::marker::PhantomData;
 use suite::Suite;
 
 // A heading takes the header.
@@ -15,26 +16,22 @@ pub struct Heading<S: Suite> {
     ghost within: { count ≤ 65536 },
 }
 
-// What a sealing and an opening share: the engine, where the rows stand, the bytes that no row has taken yet, and the body bytes taken.
+// A session whose body has started, one way or the other: the engine, where the rows stand, the bytes that no row has taken yet, and
+// the number of body bytes taken.
 #[derive(Drop)]
-pub(crate) struct Core<S: Suite> {
+pub struct Session<S: Suite, W: Way> {
     pub(crate) engine: Engine<S>,
     pub(crate) lanes: Lanes,
     pub(crate) held: [u8; 16],
     pub(crate) len: usize,
     pub(crate) total: usize,
+    pub(crate) way: PhantomData<W>,
     ghost within: { total ≤ 1048576 },
     ghost split: { len + 16 * ((total - 1) / 16) ≡ total },
 }
 
 // A sealing takes the message and gives out the ciphertext.
-#[derive(Drop)]
-pub struct Sealing<S: Suite> {
-    pub(crate) core: Core<S>,
-}
+pub type Sealing<S> = Session<S, Seal>;
 
 // An opening takes the ciphertext and gives out the message; what it gave out is provisional until it is accepted.
-#[derive(Drop)]
-pub struct Opening<S: Suite> {
-    pub(crate) core: Core<S>,
-}
+pub type Opening<S> = Session<S, Open>;

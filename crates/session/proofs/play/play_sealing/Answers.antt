@@ -4,11 +4,11 @@ use Rattle.session.proofs.Courses.{sealing_unfinished, sealing_accepted, sealing
 use Rattle.session.proofs.play.play_sealing.Goals as goal
 
 pub returns-then-not-finish : goal.returns-then-not-finish
-returns-then-not-finish g c = sealing_unfinished g.met.S.Suite.lawful _ _ _ _ _ _ c.if-not-finish.true c.in_ok-body_calls.ensures
+returns-then-not-finish g c = sealing_unfinished g.met.S.Suite.lawful refl _ _ _ _ _ _ c.if-not-finish.true c.in_ok-body_calls.ensures
 
 pub returns-in_ok-push-in-Ok : goal.returns-in_ok-push-in-Ok
 returns-in_ok-push-in-Ok g c =
-    sealing_accepted g.met.S.Suite.lawful _ _ _ _ _ _ _ _ _ _ _ _ c.if-not-finish.false c.in_ok-body_calls.ensures c.in-Ok.ensures.call refl refl
+    sealing_accepted g.met.S.Suite.lawful refl _ _ _ _ _ _ _ _ _ _ _ _ c.if-not-finish.false c.in_ok-body_calls.ensures c.in-Ok.ensures.call refl refl
     (pushed {was = vec_items c.body_calls.new.log.out} _ refl c.in_ok-extend_from_slice-in-Ok.was c.extend_from_slice.ensures.items)
     refl
     (omega arith)
@@ -16,5 +16,5 @@ returns-in_ok-push-in-Ok g c =
 
 pub returns-in_ok-push-in-Err : goal.returns-in_ok-push-in-Err
 returns-in_ok-push-in-Err g c =
-    sealing_refused g.met.S.Suite.lawful _ _ _ _ _ _ _ _ _ _ c.if-not-finish.false c.in_ok-body_calls.ensures c.in-Err.ensures.call refl refl refl
+    sealing_refused g.met.S.Suite.lawful refl _ _ _ _ _ _ _ _ _ _ c.if-not-finish.false c.in_ok-body_calls.ensures c.in-Err.ensures.call refl refl refl
     (pushed {was = vec_items c.body_calls.new.log.answers} (_ ∷ []) refl c.in_ok-push-in-Err.was c.push-in-Err.ensures.items)

@@ -15,7 +15,7 @@ returns-in_err-given g c =
     let b = c.args.place.now.bytes in
     let R = headed (fresh b) c.args.header.now in
     let h = header_ok (fresh b) _ _ _ _ (omega arith) (c.in_ok-header.ensures (fresh b) c.new-heading.ensures) in
-    let x = body_ok opening R c.args.ciphertext.now c.args.out.now _ _ _ _ (omega arith) (omega arith) (c.in_err-given.ensures R (c.open-opening.ensures R h.1)) in
+    let x = body_ok R c.args.ciphertext.now c.args.out.now _ _ _ _ (omega arith) (omega arith) (c.in_err-given.ensures R (c.open-opening.ensures R h.1)) in
     absurd (ok_err (sym x.answer))
 
 pub returns-in_err-len : goal.returns-in_err-len
@@ -24,7 +24,7 @@ returns-in_err-len g c =
     let R = headed (fresh b) c.args.header.now in
     let S = run b c.args.header.now c.args.ciphertext.now c.body.new.out in
     let h = header_ok (fresh b) _ _ _ _ (omega arith) (c.in_ok-header.ensures (fresh b) c.new-heading.ensures) in
-    let x = body_ok opening R c.args.ciphertext.now c.args.out.now _ _ _ _ (omega arith) (omega arith) (c.in_ok-given.ensures R (c.open-opening.ensures R h.1)) in
+    let x = body_ok R c.args.ciphertext.now c.args.out.now _ _ _ _ (omega arith) (omega arith) (c.in_ok-given.ensures R (c.open-opening.ensures R h.1)) in
     let y = open_ok _ S c.args.tag.now _ _ (omega arith) (omega arith) (c.in_err-len.ensures.call S x.at) in
     let p = err_from_is_err_and c.from_residual-in_err-len.result c.from_residual-in_err-len.ensures.1 in
     rw (p.1, p.2) (refused_run b c.args.header.now c.args.ciphertext.now c.args.out.now c.body.new.out (omega arith) (omega arith) (omega arith) _ _ _ _ x.rest y)
@@ -35,6 +35,6 @@ returns g c =
     let R = headed (fresh b) c.args.header.now in
     let S = run b c.args.header.now c.args.ciphertext.now c.body.new.out in
     let h = header_ok (fresh b) _ _ _ _ (omega arith) (c.in_ok-header.ensures (fresh b) c.new-heading.ensures) in
-    let x = body_ok opening R c.args.ciphertext.now c.args.out.now _ _ _ _ (omega arith) (omega arith) (c.in_ok-given.ensures R (c.open-opening.ensures R h.1)) in
+    let x = body_ok R c.args.ciphertext.now c.args.out.now _ _ _ _ (omega arith) (omega arith) (c.in_ok-given.ensures R (c.open-opening.ensures R h.1)) in
     let y = open_ok _ S c.args.tag.now _ _ (omega arith) (omega arith) (c.in_ok-len.ensures.call S x.at) in
     open_run b c.args.header.now c.args.ciphertext.now c.args.out.now c.body.new.out (omega arith) (omega arith) (omega arith) _ _ x.answer x.rest _ _ _ _ y

@@ -14,7 +14,7 @@ returns-in_err-given g c =
     let b = c.args.place.now.bytes in
     let R = headed (fresh b) c.args.header.now in
     let h = header_ok (fresh b) _ _ _ _ (omega arith) (c.in_ok-header.ensures (fresh b) c.new-heading.ensures) in
-    let x = body_ok sealing R c.args.message.now c.args.out.now _ _ _ _ (omega arith) (omega arith) (c.in_err-given.ensures R (c.seal-sealing.ensures R h.1)) in
+    let x = body_ok R c.args.message.now c.args.out.now _ _ _ _ (omega arith) (omega arith) (c.in_err-given.ensures R (c.seal-sealing.ensures R h.1)) in
     absurd (ok_err (sym x.answer))
 
 pub returns-in_err-len : goal.returns-in_err-len
@@ -22,7 +22,7 @@ returns-in_err-len g c =
     let b = c.args.place.now.bytes in
     let R = headed (fresh b) c.args.header.now in
     let h = header_ok (fresh b) _ _ _ _ (omega arith) (c.in_ok-header.ensures (fresh b) c.new-heading.ensures) in
-    let x = body_ok sealing R c.args.message.now c.args.out.now _ _ _ _ (omega arith) (omega arith) (c.in_ok-given.ensures R (c.seal-sealing.ensures R h.1)) in
+    let x = body_ok R c.args.message.now c.args.out.now _ _ _ _ (omega arith) (omega arith) (c.in_ok-given.ensures R (c.seal-sealing.ensures R h.1)) in
     let y = seal_ok _ (run b c.args.header.now c.args.message.now c.body.new.out) _ _ _ (omega arith) (c.in_err-len.ensures.call (run b c.args.header.now c.args.message.now c.body.new.out) x.at) in
     absurd (ok_err (sym y.answer))
 
@@ -31,6 +31,6 @@ returns g c =
     let b = c.args.place.now.bytes in
     let R = headed (fresh b) c.args.header.now in
     let h = header_ok (fresh b) _ _ _ _ (omega arith) (c.in_ok-header.ensures (fresh b) c.new-heading.ensures) in
-    let x = body_ok sealing R c.args.message.now c.args.out.now _ _ _ _ (omega arith) (omega arith) (c.in_ok-given.ensures R (c.seal-sealing.ensures R h.1)) in
+    let x = body_ok R c.args.message.now c.args.out.now _ _ _ _ (omega arith) (omega arith) (c.in_ok-given.ensures R (c.seal-sealing.ensures R h.1)) in
     let y = seal_ok _ (run b c.args.header.now c.args.message.now c.body.new.out) _ _ _ (omega arith) (c.in_ok-len.ensures.call (run b c.args.header.now c.args.message.now c.body.new.out) x.at) in
     seal_run b c.args.header.now c.args.message.now c.args.out.now c.body.new.out (omega arith) (omega arith) (omega arith) _ _ x.answer x.rest _ _ _ _ y

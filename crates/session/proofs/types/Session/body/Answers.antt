@@ -7,7 +7,7 @@ use Rattle.session.specs.Runs.{bodied}
 use Rattle.session.specs.Sessions.{Taken, held, writes}
 use Rattle.session.proofs.Promises.{blocks}
 use Rattle.session.proofs.Stretches.{out_length, stretched, left, answers}
-use Rattle.session.proofs.types.Core.body.Goals as goal
+use Rattle.session.proofs.types.Session.body.Goals as goal
 
 pub returns-then-out-given : goal.returns-then-out-given
 returns-then-out-given g c =

@@ -2,7 +2,7 @@ use Rattle.std.proofs.Common.{◌≡◌, ◌-◌, false, eqb, length, take, refl
 use Rattle.poet.specs.Rows.{ends, size}
 use Rattle.session.proofs.Endings.{sealed}
 use Rattle.session.proofs.Finishing.{limits, seal_finished}
-use Rattle.session.proofs.types.Core.finish_sealing.Goals as goal
+use Rattle.session.proofs.ends.Sealing+S.finish.Goals as goal
 
 pub returns : goal.returns
 returns g c = record {

@@ -1,7 +1,7 @@
 use Rattle.std.proofs.Common.{refl, arith, rules}
 use Rattle.poet.proofs.Xors.{bytes_from}
 use Rattle.session.proofs.Finishing.{opening_accepts, opening_refuses}
-use Rattle.session.proofs.types.Core.finish_opening.Goals as goal
+use Rattle.session.proofs.ends.Opening+S.finish.Goals as goal
 
 pub returns-then-not-accepted : goal.returns-then-not-accepted
 returns-then-not-accepted g c = record {
