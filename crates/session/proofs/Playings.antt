@@ -12,7 +12,6 @@ use Rattle.session.specs.declared.types.Heading.{Heading}
 use Rattle.session.specs.declared.rows.Way as way
 use Rattle.session.specs.declared.types.Session.{Session}
 use Rattle.session.specs.Calls.{answered}
-use Rattle.session.specs.Directions.{Direction}
 use Rattle.session.specs.Sessions.{header_check}
 use Rattle.session.specs.Scripts.{taken, body_check_of, body_answer, headers_taken, header_answers, bodies_taken, body_answers}
 use Rattle.session.specs.Playing.{HeaderPlayed, BodyPlayed}

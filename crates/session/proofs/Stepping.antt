@@ -1,5 +1,5 @@
 -- One call of a written session.
-use Rattle.std.proofs.Common.{◌≡◌, ℕ, ◌+◌, ◌-◌, List, [], ◌∷◌, ◌++◌, length, take, Some, None, Ok, Err, vec_items, Option, sym, refl, ap, ◌∙◌, subst, arith}
+use Rattle.std.proofs.Common.{◌≡◌, ℕ, ◌+◌, List, [], ◌∷◌, ◌++◌, length, take, Some, None, Ok, Err, vec_items, Option, sym, refl, ap, ◌∙◌, subst, arith}
 use Rattle.fault.specs.declared.kinds.SessionFault.{SessionFault}
 use Rattle.fault.specs.declared.kinds.Placed.{Placed}
 use Rattle.poet.specs.Bytes.{Block}
@@ -13,16 +13,16 @@ use Rattle.session.specs.declared.script.Answer.TheVariants.{Header, Body}
 use Rattle.session.specs.declared.script.Stretch.{Stretch}
 use Rattle.session.specs.declared.types.Heading.{Heading}
 use Rattle.session.specs.declared.rows.Way as way
+use Rattle.session.specs.declared.types.Given.{Given}
 use Rattle.session.specs.declared.types.Session.{Session}
 use Rattle.session.specs.Calls.{answered}
-use Rattle.session.specs.Directions.{Direction}
 use Rattle.session.specs.Runs.{Run, headed, bodied}
-use Rattle.session.specs.Sessions.{HeadingAt, HeaderBy, header_check, SessionAt, BodyBy, BodyTaken, body_check, held, writes}
+use Rattle.session.specs.Sessions.{HeadingAt, HeaderBy, header_check, SessionAt, BodyBy, BodyTaken, body_check, held, writes, given_of}
 use Rattle.session.specs.Scripts.{run_of, taken, held_of, body_check_of}
 use Rattle.session.specs.Playing.{HeaderPlayed, BodyPlayed}
 use Rattle.session.proofs.Calling.{ok_err}
 use Rattle.session.proofs.Stretches.{out_length}
-use Rattle.session.proofs.Straights.{pair_first}
+use Rattle.session.proofs.Straights.{ok_same}
 
 module _ {A B C D : Type 0} {u : suite.Ghosts A B C D} {x : permutation.Ghosts B} {y : hash.Ghosts C} {z : digest.Ghosts D} where
   heeded : (o : Option (Placed SessionFault)) (R : Run) (P : List ℕ) (s s' : Heading A B C D u x y z) → HeaderBy o R P s s' (Ok tt) → (o ≡ None) × HeadingAt (headed R P) s'
@@ -65,7 +65,7 @@ module _ {A W B C D : Type 0} {u : suite.Ghosts A B C D} {x : permutation.Ghosts
   pub held_same : (R : Run) (s : Session A W B C D u x y z w) → SessionAt R s → held R ≡ held_of (length R.body)
   held_same R s a = let o = out_length (u.under R.key) (L R.key a.taken.key_block) w.way R a.taken.header_bytes a.taken.body_bytes a.out_is in omega arith
 
-  body_heeds : (o : Option (Placed SessionFault)) (R : Run) (P b b' : List ℕ) (s s' : Session A W B C D u x y z w) (r : ℕ × ℕ) → BodyBy o R P b b' s s' (Ok r) → (o ≡ None) × BodyTaken R P b b' s' (Ok r)
+  body_heeds : (o : Option (Placed SessionFault)) (R : Run) (P b b' : List ℕ) (s s' : Session A W B C D u x y z w) (r : Given) → BodyBy o R P b b' s s' (Ok r) → (o ≡ None) × BodyTaken R P b b' s' (Ok r)
   body_heeds None R P b b' s s' r h = (refl, h)
   body_heeds (Some e) R P b b' s s' r h = absurd (ok_err h.0)
 
@@ -82,19 +82,19 @@ module _ {A W B C D : Type 0} {u : suite.Ghosts A B C D} {x : permutation.Ghosts
     unfolding P
     check_same key a = rw (held_same (run_of key p) s a, room)
 
-    pub body_heeded : (n m : ℕ) → p'.header ≡ p.header
-        → ((key : List ℕ) → SessionAt (run_of key p) s → BodyBy (body_check (length (vec_items p.body)) (held (run_of key p)) (length t.bytes.now) (length b)) (run_of key p) t.bytes.now b b' s s' (Ok (n, m)))
-        → vec_items p'.body ≡ vec_items p.body ++ t.bytes.now → vec_items p'.out ≡ vec_items p.out ++ take n b' → vec_items p'.answers ≡ vec_items p.answers ++ Body (Ok (n, m)) ∷ [] → BodyPlayed (t ∷ []) p p' s s'
+    pub body_heeded : (n : Given) → p'.header ≡ p.header
+        → ((key : List ℕ) → SessionAt (run_of key p) s → BodyBy (body_check (length (vec_items p.body)) (held (run_of key p)) (length t.bytes.now) (length b)) (run_of key p) t.bytes.now b b' s s' (Ok n))
+        → vec_items p'.body ≡ vec_items p.body ++ t.bytes.now → vec_items p'.out ≡ vec_items p.out ++ take n.written b' → vec_items p'.answers ≡ vec_items p.answers ++ Body (Ok n) ∷ [] → BodyPlayed (t ∷ []) p p' s s'
     unfolding P
-    body_heeded n m he h be oe ae =
+    body_heeded n he h be oe ae =
         let M = vec_items p.body in
-        let q : (key : List ℕ) → SessionAt (run_of key p) s → (body_check (length M) (held (run_of key p)) (length P) (length b) ≡ None) × BodyTaken (run_of key p) P b b' s' (Ok (n, m)) =
-        λ key a. body_heeds (body_check (length M) (held (run_of key p)) (length P) (length b)) (run_of key p) P b b' s s' (n, m) (h key a) in
+        let q : (key : List ℕ) → SessionAt (run_of key p) s → (body_check (length M) (held (run_of key p)) (length P) (length b) ≡ None) × BodyTaken (run_of key p) P b b' s' (Ok n) =
+        λ key a. body_heeds (body_check (length M) (held (run_of key p)) (length P) (length b)) (run_of key p) P b b' s s' n (h key a) in
         record {
           at =
               λ key a.
               let T = (q key a).1 in
-              let ne = pair_first T.answer in
+              let ne : n.written ≡ writes (held (run_of key p) + length P) = ap (λ (i : Given). i.written) (ok_same T.answer) in
               let run : bodied (run_of key p) P (take (writes (held (run_of key p) + length P)) b') ≡ run_of key p' = cc in
               subst (λ (R : Run). SessionAt R s') run T.at;
           header = ap vec_items he;
@@ -103,8 +103,8 @@ module _ {A W B C D : Type 0} {u : suite.Ghosts A B C D} {x : permutation.Ghosts
               λ key a.
               ae
               ∙ ap (λ r. vec_items p.answers ++ Body r ∷ [])
-              ((q key a).1.answer ∙ ap (λ h. Ok (writes (h + length P), h + length P - writes (h + length P))) (held_same (run_of key p) s a)
-              ∙ ap (λ o. answered o (writes (held_of (length M) + length P), held_of (length M) + length P - writes (held_of (length M) + length P))) (sym (q key a).0 ∙ check_same key a));
+              ((q key a).1.answer ∙ ap (λ h. Ok (given_of (h + length P))) (held_same (run_of key p) s a)
+              ∙ ap (λ o. answered o (given_of (held_of (length M) + length P))) (sym (q key a).0 ∙ check_same key a));
         }
 
     pub body_refused : (e : Placed SessionFault) → p'.header ≡ p.header → p'.body ≡ p.body → p'.out ≡ p.out
@@ -120,5 +120,5 @@ module _ {A W B C D : Type 0} {u : suite.Ghosts A B C D} {x : permutation.Ghosts
           at = λ key a. subst (λ (R : Run). SessionAt R s') (run key) (subst (SessionAt (run_of key p)) (sym (q key a).1) a);
           header = ap vec_items he;
           body = λ key a. ap vec_items be ∙ ap (λ o. taken o M P) (sym (q key a).0 ∙ check_same key a);
-          answers = λ key a. ae ∙ ap (λ o. vec_items p.answers ++ Body (answered o (writes (held_of (length M) + length P), held_of (length M) + length P - writes (held_of (length M) + length P))) ∷ []) (sym (q key a).0 ∙ check_same key a);
+          answers = λ key a. ae ∙ ap (λ o. vec_items p.answers ++ Body (answered o (given_of (held_of (length M) + length P))) ∷ []) (sym (q key a).0 ∙ check_same key a);
         }

@@ -5,7 +5,30 @@ use Rattle.fault.specs.declared.kinds.SessionFault.TheVariants.{Forged}
 use Rattle.fault.specs.declared.kinds.Placed.{Placed}
 use Rattle.poet.specs.Functions.{Functions}
 use Rattle.poet.specs.Seal.{Seals}
+use Rattle.suite.specs.declared.Suite as suite
+use Rattle.suite.specs.declared.Permutation as permutation
+use Rattle.suite.specs.declared.ChainingHash as hash
+use Rattle.suite.specs.declared.HeaderDigest as digest
+use Rattle.session.specs.declared.rows.Way as way
 use Rattle.session.specs.declared.straight.Tail.{Tail}
+use Rattle.session.specs.declared.types.Session.{Session}
+use Rattle.session.specs.Runs.{Run}
+use Rattle.session.specs.Sessions.{SessionAt, writes}
+
+-- the run of a session that took the header H and the body a, and gave the front of o'
+abbrev pub run : (key H a o' : List ℕ) → Run
+run key H a o' = record { key = key; header = H; body = a; out = take (writes (length a)) o' }
+
+-- the session s stands at that run: its body call wrote those bytes over the front of o, and its finish is still to come
+pub record Begun {A W B C D : Type 0} {u : suite.Ghosts A B C D} {p : permutation.Ghosts B} {h : hash.Ghosts C} {d : digest.Ghosts D} {w : way.Ghosts W} (key H a o o' : List ℕ) (s : Session A W B C D u p h d w) (written : ℕ) : Type 0 where
+  pub written_is : written ≡ writes (length a)
+  pub rest : drop (writes (length a)) o' ≡ drop (writes (length a)) o
+  pub at : SessionAt (run key H a o') s
+
+-- neither call is refused here
+abbrev pub BegunBy : {A W B C D : Type 0} {u : suite.Ghosts A B C D} {p : permutation.Ghosts B} {h : hash.Ghosts C} {d : digest.Ghosts D} {w : way.Ghosts W} → (key H a o o' : List ℕ) → Result (Session A W B C D u p h d w × ℕ) (Placed SessionFault) → Type 0
+BegunBy key H a o o' (Ok q) = Begun key H a o o' q.0 q.1
+BegunBy key H a o o' (Err e) = ⊥
 
 -- the body a of a session was cut into what body calls gave and the last bytes; o became o'
 pub record Cut (a o o' : List ℕ) (e : Tail) : Type 0 where

@@ -55,11 +55,11 @@ fn body_call<S: Suite, W: Way>(
 {
     let mut buffer = vec![in heap; 0; stretch.room]?;
     match session.body(stretch.bytes, &mut buffer) {
-        Ok((given, held)) => {
+        Ok(given) => {
             log.body.extend_from_slice(stretch.bytes)?;
-            buffer.truncate(given);
+            buffer.truncate(given.written);
             log.out.extend_from_slice(&buffer)?;
-            log.answers.push(Answer::Body(Ok((given, held))))?;
+            log.answers.push(Answer::Body(Ok(given)))?;
             Ok(())
         }
         Err(fault) => {

@@ -1,12 +1,15 @@
 // The rows: one code for sealing, which goes through them with E from X to Y, and for opening, which goes with D from Y to X.
-ghost use Rattle.std.specs.Prelude.{◌≡◌, ◌+◌, ◌*◌, ◌≤◌, ◌++◌, length, take};
-ghost use Rattle.poet.specs.Bytes.{◌⊕◌};
+ghost use Rattle.std.specs.Prelude.{◌≡◌, ℕ, ◌+◌, ◌*◌, ◌≤◌, List, ◌++◌, length, take};
+ghost use Rattle.poet.specs.Functions.{Functions};
+ghost use Rattle.poet.specs.Rows.{size, zed};
 ghost use Rattle.session.specs.Directions.{Direction, opening, picks, sealing, turns};
+ghost use Rattle.session.specs.Engines.{EngineAt};
 ghost use Rattle.session.specs.Steps.{Ended, Ran, Stepped, lanes};
 
 use crate::blocks::joined_block;
+use crate::engine::Engine;
 use poet::xor;
-use suite::{ChainingHash, Permutation};
+use suite::{ChainingHash, Permutation, Suite};
 
 // A way through the rows. It is public because the types of sessions name it, but this module is not: nothing outside implements it.
 pub trait Way {
@@ -63,43 +66,36 @@ pub struct Lanes {
     pub(crate) giving: [u8; 16],
 }
 
-impl Lanes {
+impl<S: Suite> Engine<S> {
     // One row: the block that it gives, with both sequences one block on.
-    pub(crate) fn row<W: Way, P: Permutation, H: ChainingHash>(
-        self,
-        p: &P,
-        h: &H,
-        block: [u8; 16],
-    ) -> (Lanes, [u8; 16])
-        ensures { Stepped (picks W.Way.way (P.Permutation.enc p.now) (P.Permutation.dec p.now)) (H.ChainingHash.chain h.now) self.taking self.giving block result.0.taking result.0.giving result.1 }
+    fn row<W: Way>(&self, lanes: Lanes, block: [u8; 16]) -> (Lanes, [u8; 16])
+        ensures { (f : Functions) (H : List ℕ) → EngineAt S.Permutation.Permutation S.ChainingHash.ChainingHash f H self.now → Stepped (picks W.Way.way f.enc f.dec) f.chain lanes.taking lanes.giving block result.0.taking result.0.giving result.1 }
     {
-        let taking = xor(block, h.hash(self.taking));
-        let giving = W::pass(p, taking);
-        let given = xor(giving, h.hash(self.giving));
+        let taking = xor(block, self.hash.hash(lanes.taking));
+        let giving = W::pass(&self.permutation, taking);
+        let given = xor(giving, self.hash.hash(lanes.giving));
         (Lanes { taking, giving }, given)
     }
 
-    // The last row, with the mask `s` on both sides of the permutation.
-    pub(crate) fn last_row<W: Way, P: Permutation, H: ChainingHash>(
-        self,
-        p: &P,
-        h: &H,
-        s: [u8; 16],
+    // The last row, with the mask on both sides of the permutation.
+    pub(crate) fn last_row<W: Way>(
+        &self,
+        lanes: Lanes,
+        mask: [u8; 16],
         block: [u8; 16],
     ) -> (Lanes, [u8; 16])
-        ensures { Ended (picks W.Way.way (P.Permutation.enc p.now) (P.Permutation.dec p.now)) (H.ChainingHash.chain h.now) s self.taking self.giving block result.0.taking result.0.giving result.1 }
+        ensures { (f : Functions) (H : List ℕ) → EngineAt S.Permutation.Permutation S.ChainingHash.ChainingHash f H self.now → Ended (picks W.Way.way f.enc f.dec) f.chain mask lanes.taking lanes.giving block result.0.taking result.0.giving result.1 }
     {
-        let taking = xor(xor(block, s), h.hash(self.taking));
-        let giving = W::pass(p, taking);
-        let given = xor(xor(giving, h.hash(self.giving)), s);
+        let taking = xor(xor(block, mask), self.hash.hash(lanes.taking));
+        let giving = W::pass(&self.permutation, taking);
+        let given = xor(xor(giving, self.hash.hash(lanes.giving)), mask);
         (Lanes { taking, giving }, given)
     }
 
     // n rows over the front of the bytes held and the input behind them; what they give goes to the front of `out`.
-    pub(crate) fn run<W: Way, P: Permutation, H: ChainingHash>(
-        self,
-        p: &P,
-        h: &H,
+    pub(crate) fn run<W: Way>(
+        &self,
+        lanes: Lanes,
         held: &[u8; 16],
         len: usize,
         input: &[u8],
@@ -109,29 +105,31 @@ impl Lanes {
         requires few { len ≤ 16 }
         requires within { 16 * n ≤ len + length input.now }
         requires room { 16 * n ≤ length out.old }
-        ensures { Ran (picks W.Way.way (P.Permutation.enc p.now) (P.Permutation.dec p.now)) (H.ChainingHash.chain h.now) self.taking self.giving (take len held.now ++ input.now) out.old n result.taking result.giving out.new }
+        ensures { (f : Functions) (H : List ℕ) → EngineAt S.Permutation.Permutation S.ChainingHash.ChainingHash f H self.now → Ran (picks W.Way.way f.enc f.dec) f.chain lanes.taking lanes.giving (take len held.now ++ input.now) out.old n result.taking result.giving out.new }
     {
-        let mut lanes = self;
+        let mut lanes = lanes;
         for i in 0..n {
             let at = 16 * i;
-            let (next, given) = lanes.row::<W, P, H>(p, h, joined_block(held, len, input, at));
+            let (next, given) = self.row::<W>(lanes, joined_block(held, len, input, at));
             lanes = next;
             out[at..at + 16].copy_from_slice(&given);
         }
         lanes
     }
-}
 
-// Z, from τ and the last X and Y.
-pub(crate) fn closing<P: Permutation, H: ChainingHash>(
-    p: &P,
-    h: &H,
-    tau: [u8; 16],
-    x: [u8; 16],
-    y: [u8; 16],
-) -> [u8; 16]
-    ensures { result ≡ P.Permutation.enc p.now (H.ChainingHash.chain h.now x ⊕ tau) ⊕ H.ChainingHash.chain h.now y ⊕ tau }
-{
-    let inner = p.encrypt(xor(h.hash(x), tau));
-    xor(xor(inner, h.hash(y)), tau)
+    // S for a message of `len` bytes.
+    pub(crate) fn mask(&self, len: usize) -> [u8; 16]
+        requires { len ≤ 1048576 }
+        ensures { (key H : List ℕ) → EngineAt S.Permutation.Permutation S.ChainingHash.ChainingHash (S.Suite.under key) H self.now → result ≡ size (S.Suite.under key) len }
+    {
+        self.permutation.encrypt(S::encode(8 * len as u64))
+    }
+
+    // Z, from τ and the last X and Y.
+    pub(crate) fn closing(&self, x: [u8; 16], y: [u8; 16]) -> [u8; 16]
+        ensures { (f : Functions) (H : List ℕ) → EngineAt S.Permutation.Permutation S.ChainingHash.ChainingHash f H self.now → result ≡ zed f (f.dig H) x y }
+    {
+        let inner = self.permutation.encrypt(xor(self.hash.hash(x), self.tau));
+        xor(xor(inner, self.hash.hash(y)), self.tau)
+    }
 }

@@ -3,32 +3,25 @@ use Rattle.poet.proofs.Xors.{bytes_from}
 use Rattle.session.proofs.Finishing.{opening_accepts, opening_refuses}
 use Rattle.session.proofs.ends.Opening+S.finish.Goals as goal
 
-pub returns-then-not-accepted : goal.returns-then-not-accepted
-returns-then-not-accepted g c = record {
-  few = tt;
-  call =
-      λ R a.
-      opening_refuses (g.S.Suite.under R.key) (g.met.S.Suite.lawful R.key a.taken.key_block) R a.taken c.args.self.total a.total_is (omega arith) (omega arith) c.args.tag.now _ (bytes_from c.args.tag.now (λ i j. search rules)) c.in_ok-tag.ensures a.out_is _ _
-      (c.verdict-accepted.ensures R a)
-      c.if-not-accepted.true;
-}
+pub returns-in_default-clause-call : goal.returns-in_default-clause-call
+returns-in_default-clause-call g c =
+    λ R a.
+    opening_refuses (g.S.Suite.under R.key) (g.met.S.Suite.lawful R.key a.taken.key_block) R a.taken c.args.self.total a.total_is (omega arith) (omega arith) c.args.tag.now _ (bytes_from c.args.tag.now (λ i j. search rules)) c.in_ok-tag.ensures a.out_is
+    (rw c.in_default.is at (c.verdict.ensures R a))
 
-pub returns : goal.returns
-returns g c = record {
-  few = omega arith;
-  call =
-      λ R a.
-      let k = a.total_is in
-      opening_accepts (g.S.Suite.under R.key) (g.met.S.Suite.lawful R.key a.taken.key_block) R a.taken c.args.self.total a.total_is (omega arith) (omega arith) c.args.tag.now _ (bytes_from c.args.tag.now (λ i j. search rules)) c.in_ok-tag.ensures a.out_is _ _
-      (c.verdict-accepted.ensures R a)
-      c.args.self.len
-      _
-      _
-      _
-      c.if-not-accepted.false
-      (omega arith)
-      (omega (arith, c.verdict-accepted.type_inv))
-      (omega arith)
-      refl
-      c.complete.ensures;
-}
+pub returns-clause-call : goal.returns-clause-call
+returns-clause-call g c =
+    λ R a.
+    let k = a.total_is in
+    opening_accepts (g.S.Suite.under R.key) (g.met.S.Suite.lawful R.key a.taken.key_block) R a.taken c.args.self.total a.total_is (omega arith) (omega arith) c.args.tag.now _ (bytes_from c.args.tag.now (λ i j. search rules)) c.in_ok-tag.ensures a.out_is
+    c.args.self.len
+    c.in-Some.given
+    _
+    _
+    _
+    (rw c.in-Some.is at (c.verdict.ensures R a))
+    (omega arith)
+    (omega (arith, c.verdict.type_inv))
+    refl
+    refl
+    c.complete.ensures

@@ -1,4 +1,4 @@
-use Rattle.std.proofs.Common.{◌≡◌, ◌-◌, take, refl, ap, ◌∙◌, arith}
+use Rattle.std.proofs.Common.{refl, ap, ◌∙◌, arith}
 use Rattle.poet.specs.Rows.{size}
 use Rattle.session.proofs.Endings.{tested}
 use Rattle.session.proofs.ends.Opening+S.verdict.Goals as goal
@@ -7,17 +7,16 @@ pub returns : goal.returns
 returns g c =
     λ R a.
     let f = g.S.Suite.under R.key in
-    let s = c.args.self.now in
     let k = a.total_is in
-    let n : s.len - 0 ≡ s.len = omega arith in
-    tested f R.header R.body c.args.tag.now {k = s.len - 0} {j = 16 - s.len - 0} a.engine.enc_is a.engine.dec_is a.engine.chain_is a.engine.tau_is (c.mask-mask.ensures R.key R.header a.engine ∙ ap (size f) k) a.x_is a.y_is (ap (λ i. take i s.held) n ∙ a.held_is)
+    rw c.then_some.ensures
+    (tested f R.header R.body c.args.tag.now a.engine.tau_is (c.mask-mask.ensures R.key R.header a.engine ∙ ap (size f) k) a.x_is a.y_is a.held_is
     c.complete-block.ensures
-    c.last_row.ensures
-    c.closing-z.ensures
+    (c.last_row.ensures f R.header a.engine)
+    (c.closing-z.ensures f R.header a.engine)
     refl
-    c.complete-sound.ensures
+    c.complete.ensures
     refl
-    c.complete-expected.ensures
+    c.complete-2.ensures
     (omega arith)
     (omega arith)
     (omega (arith, c.last_row.type_inv))
@@ -25,4 +24,4 @@ returns g c =
     c.same-padded.ensures.yes
     c.same-padded.ensures.no
     c.same-tagged.ensures.yes
-    c.same-tagged.ensures.no
+    c.same-tagged.ensures.no)

@@ -1,4 +1,4 @@
-use Rattle.std.proofs.Common.{◌≡◌, ◌-◌, false, eqb, length, take, refl, ap, ◌∙◌, arith, ne_eqb}
+use Rattle.std.proofs.Common.{◌≡◌, false, eqb, length, refl, ap, ◌∙◌, arith, ne_eqb}
 use Rattle.poet.specs.Rows.{ends, size}
 use Rattle.session.proofs.Endings.{sealed}
 use Rattle.session.proofs.Finishing.{limits, seal_finished}
@@ -15,11 +15,10 @@ returns g c = record {
       let L = g.met.S.Suite.lawful R.key a.taken.key_block in
       let e : eqb (length R.body) 0 ≡ false = ne_eqb (length R.body) 0 (λ z. omega arith) in
       let le : s.len ≡ ends R.body = omega arith in
-      let n : s.len - 0 ≡ s.len = omega arith in
       let q =
-      sealed f R.header R.body a.engine.enc_is a.engine.chain_is a.engine.tau_is (c.mask-mask.ensures R.key R.header a.engine ∙ ap (size f) k) a.x_is a.y_is (ap (λ i. take i s.held) n ∙ a.held_is) c.complete-block.ensures c.last_row.ensures c.closing-z.ensures refl
+      sealed f R.header R.body a.engine.tau_is (c.mask-mask.ensures R.key R.header a.engine ∙ ap (size f) k) a.x_is a.y_is a.held_is c.complete-block.ensures (c.last_row.ensures f R.header a.engine) (c.closing-z.ensures f R.header a.engine) refl
       c.complete-2.ensures
       le
       (omega (arith, c.last_row.type_inv)) in
-      rw e (seal_finished f L R a.taken (limits R a.taken (omega arith) (omega arith)) s.len le c.last_row.result.1 _ c.complete.result _ (omega (arith, c.last_row.type_inv)) n refl c.complete.ensures c.complete-2.result a.out_is q);
+      rw e (seal_finished f L R a.taken (limits R a.taken (omega arith) (omega arith)) s.len le c.last_row.result.1 _ c.complete.result _ (omega (arith, c.last_row.type_inv)) refl refl c.complete.ensures c.complete-2.result a.out_is q);
 }

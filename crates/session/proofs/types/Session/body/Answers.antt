@@ -1,16 +1,15 @@
-use Rattle.std.proofs.Common.{◌≡◌, ℕ, ◌+◌, ◌*◌, ◌/◌, true, false, ltb, List, ◌++◌, length, take, drop, refl, ap, ap₂, subst₂, arith, length-append, rules, le-ltb, lt-ltb}
+use Rattle.std.proofs.Common.{◌≡◌, ℕ, ◌+◌, ◌*◌, ◌/◌, true, false, ltb, ◌++◌, length, take, drop, Ok, refl, ap, ap₂, arith, length-append, rules, le-ltb, lt-ltb}
 use Rattle.poet.specs.Rows.{whole, start}
 use Rattle.poet.proofs.Xors.{bytes_append, bytes_from}
 use Rattle.session.specs.Directions.{picks, turns}
-use Rattle.session.specs.Steps.{Ran}
 use Rattle.session.specs.Runs.{bodied}
 use Rattle.session.specs.Sessions.{Taken, held, writes}
 use Rattle.session.proofs.Promises.{blocks}
-use Rattle.session.proofs.Stretches.{out_length, stretched, left, answers}
+use Rattle.session.proofs.Stretches.{out_length, stretched, left}
 use Rattle.session.proofs.types.Session.body.Goals as goal
 
-pub returns-then-out-given : goal.returns-then-out-given
-returns-then-out-given g c =
+pub returns-then-out-written : goal.returns-then-out-written
+returns-then-out-written g c =
     λ R a.
     let f = g.S.Suite.under R.key in
     let P = c.args.input.now in
@@ -39,8 +38,7 @@ returns g c =
     let g₁ : writes (held R + length P) ≡ 16 * n = omega arith in
     let w : whole (M ++ P) ≡ whole M + n = omega arith in
     let u : take s.len s.held ++ P ≡ drop (16 * whole M) M ++ P = ap (λ z. z ++ P) a.held_is in
-    let ran : Ran (picks g.W.Way.way f.enc f.dec) f.chain s.lanes.taking s.lanes.giving (take s.len s.held ++ P) c.args.out.now n c.run-self.result.taking c.run-self.result.giving c.run-self.new.out =
-    subst₂ (λ (i : List ℕ → List ℕ) (h : List ℕ → List ℕ). Ran i h s.lanes.taking s.lanes.giving (take s.len s.held ++ P) c.args.out.now n c.run-self.result.taking c.run-self.result.giving c.run-self.new.out) (ap₂ (picks g.W.Way.way) a.engine.enc_is a.engine.dec_is) a.engine.chain_is c.run-self.ensures in
+    let ran = c.run-self.ensures f R.header a.engine in
     let q = stretched (picks g.W.Way.way f.enc f.dec) f.chain (turns g.W.Way.way (start f R.header)) M P (take s.len s.held ++ P) n u w _ _ _ _ _ _ R.out a.x_is a.y_is a.out_is ran in
     let hr : held R ≡ s.len = omega arith in
     let T : Taken (bodied R P (take (16 * n) c.run-self.new.out)) = record {
@@ -50,8 +48,8 @@ returns g c =
       body_bytes = bytes_append M P a.taken.body_bytes (bytes_from P (λ i j. search rules));
     } in
     rw (e, d) record {
-      answer = answers (omega arith) (omega arith);
-      rest = rw g₁ c.run-self.ensures.rest;
+      answer = ap₂ (λ (i j : ℕ). Ok (record { written = i; held = j })) (omega arith) (omega arith);
+      rest = rw g₁ ran.rest;
       at = rw g₁ record {
         taken = T;
         engine = a.engine;
