@@ -1,5 +1,5 @@
 -- A written session, from its body calls and its finish to the promise.
-use Rattle.std.proofs.Common.{◌≡◌, ℕ, ◌-◌, Bool, true, false, List, [], ◌∷◌, ◌++◌, length, take, drop, replicate, IfOk, Some, None, Ok, Err, vec_items, Option, Result, sym, refl, ap, ◌∙◌, subst, ap₂, Bor}
+use Rattle.std.proofs.Common.{◌≡◌, ℕ, ◌-◌, Bool, true, false, List, [], ◌∷◌, ◌++◌, length, take, drop, replicate, IfOk, Some, None, Ok, Err, vec_items, Option, Result, sym, refl, ap, ◌∙◌, subst, ap₂, Bor, append-nil}
 use Rattle.std.proofs.lemmas.Result.{IfOk-weaker}
 use Rattle.std.specs.declared.alloc.AllocError.{AllocError}
 use Rattle.fault.specs.declared.kinds.SessionFault.{SessionFault}
@@ -22,160 +22,95 @@ use Rattle.session.specs.declared.types.Heading.{Heading}
 use Rattle.session.specs.Directions.{Direction, sealing, opening}
 use Rattle.session.specs.Runs.{Run, fresh, finished}
 use Rattle.session.specs.Promise.{Blocks}
-use Rattle.session.specs.Sessions.{HeadingAt, SessionAt, held, empty_check, end_check, SealFinished, SealedBy, OpenJudged, OpenedBy}
-use Rattle.session.specs.Scripts.{run_of, headers_taken, header_answers, held_of}
+use Rattle.session.specs.Sessions.{HeadingAt, SessionAt, held, empty_check, end_check, SealedBy, OpenedBy}
+use Rattle.session.specs.Scripts.{run_of, headers_taken, header_answers, held_of, body_answers}
 use Rattle.session.specs.Playing.{HeaderPlayed, BodyPlayed}
-use Rattle.session.specs.Plays.{AgreesWith, SealEnds, OpenEnds, SealPromise, OpenPromise, SealingPlayed, OpeningPlayed, tag_of}
-use Rattle.session.proofs.Calling.{ok_err}
+use Rattle.session.specs.Logs.{FinishKept, last_of}
+use Rattle.session.specs.Plays.{AgreesWith, SealEnds, OpenVerdict, OpenEnds, SealPromise, OpenPromise, SealingPlayed, OpeningPlayed, tag_of}
 use Rattle.session.proofs.Promises.{blocks, two_runs}
 use Rattle.session.proofs.Stepping.{held_same}
-use Rattle.session.proofs.Straights.{ok_same}
 
 agrees : (w : Direction) (f : Functions) → Lawful f → (R : Run) → Blocks w f R → AgreesWith w f R
 agrees w f L R b = λ R' b' h k l l'. two_runs w f L R R' b b' h k l l'
 
--- a finish of a sealing that was accepted, and one that was refused
-seal_accepted : (o : Option (Placed SessionFault)) (f : Functions) (R : Run) (l t : List ℕ) (n : ℕ) → SealedBy o f R l t (Ok n) → (o ≡ None) × SealFinished f R l t (Ok n)
-seal_accepted None f R l t n s = (refl, s)
-seal_accepted (Some e) f R l t n s = absurd (ok_err s.0)
+-- a finish that hands out nothing leaves the run as it was
+nothing_more : (R : Run) → finished R [] ≡ R
+nothing_more R = ap (λ (o : List ℕ). record { key = R.key; header = R.header; body = R.body; out = o }) (append-nil R.out)
 
-seal_refused : (o : Option (Placed SessionFault)) (f : Functions) (R : Run) (l t : List ℕ) (e : Placed SessionFault) → SealedBy o f R l t (Err e) → SealEnds o f R (Err e) l t
-seal_refused None f R l t e s = absurd (ok_err (sym s.answer))
-seal_refused (Some d) f R l t e s = s
+-- a finish of a sealing: the last bytes belong to the run, and what it promises
+sealed_end : (o : Option (Placed SessionFault)) (f : Functions) (R : Run) (last tag : List ℕ) (r : Result ℕ (Placed SessionFault)) → Blocks sealing f R → held R ≡ held_of (length R.body) → SealedBy o f R last tag r
+    → Blocks sealing f (finished R (last_of r last)) × SealEnds o f (finished R (last_of r last)) r last tag
+sealed_end None f R last tag r b h s =
+    subst (λ (i : Result ℕ (Placed SessionFault)). Blocks sealing f (finished R (last_of i last)) × SealEnds None f (finished R (last_of i last)) i last tag) (sym s.answer) (s.blocks, (ap Ok h, s.seals, subst (λ (i : ℕ). drop i last ≡ replicate (16 - i) 0) h s.zeros))
+sealed_end (Some e) f R last tag r b h s =
+    subst (λ (i : Result ℕ (Placed SessionFault)). Blocks sealing f (finished R (last_of i last)) × SealEnds (Some e) f (finished R (last_of i last)) i last tag) (sym s.0) (subst (Blocks sealing f) (sym (nothing_more R)) b, (refl, s.1, s.2))
 
 -- the same of an opening
-open_accepted : (o : Option (Placed SessionFault)) (f : Functions) (R : Run) (T l : List ℕ) (n : ℕ) → OpenedBy o f R T l (Ok n) → (o ≡ None) × OpenJudged f R T l (Ok n)
-open_accepted None f R T l n s = (refl, s)
-open_accepted (Some e) f R T l n s = absurd (ok_err s.0)
+opened_end : (o : Option (Placed SessionFault)) (f : Functions) (R : Run) (T last : List ℕ) (r : Result ℕ (Placed SessionFault)) → Blocks opening f R → held R ≡ held_of (length R.body) → OpenedBy o f R T last r
+    → Blocks opening f (finished R (last_of r last)) × OpenEnds o f (finished R (last_of r last)) T r last
+opened_end None f R T last (Ok n) b h s =
+    subst (λ (i : ℕ). Blocks opening f (finished R (take i last)) × OpenVerdict f (finished R (take i last)) T (Ok i) last) (sym s.0) (s.1.blocks, (h, s.1.seals, s.1.only, s.1.zeros))
+opened_end None f R T last (Err e) b h s = (subst (Blocks opening f) (sym (nothing_more R)) b, (s.fault, s.none, s.zeros))
+opened_end (Some e) f R T last r b h s =
+    subst (λ (i : Result ℕ (Placed SessionFault)). Blocks opening f (finished R (last_of i last)) × OpenEnds (Some e) f (finished R (last_of i last)) T i last) (sym s.0) (subst (Blocks opening f) (sym (nothing_more R)) b, (refl, s.1))
 
-open_refused : (o : Option (Placed SessionFault)) (f : Functions) (R : Run) (T l : List ℕ) (e : Placed SessionFault) → OpenedBy o f R T l (Err e) → OpenEnds o f R T (Err e) l
-open_refused None f R T l e s = (s.fault, s.none, s.zeros)
-open_refused (Some d) f R T l e s = s
+-- the run once a finish is kept
+finished_run : (key last : List ℕ) (r : Result ℕ (Placed SessionFault)) (p p' : Played) → FinishKept r last p p' → finished (run_of key p) (last_of r last) ≡ run_of key p'
+finished_run key last r p p' e = let h = e.header in let b = e.body in let o = e.out in cc
 
--- what a session handed out, by its way
-by_way : {w v : Direction} {f : Functions} {R : Run} → w ≡ v → Blocks w f R → Blocks v f R
-by_way {f = f} {R = R} e b = subst (λ (i : Direction). Blocks i f R) e b
+module _ {A W B C D : Type 0} {u : suite.Ghosts A B C D} {x : permutation.Ghosts B} {y : hash.Ghosts C} {z : digest.Ghosts D} {w : way.Ghosts W} (L : (key : List ℕ) → Block key → Lawful (u.under key)) (bs : List Stretch) (p p₁ : Played)
+    (s s₁ : Session A W B C D u x y z w) (N : BodyPlayed bs p p₁ s s₁) where
+  -- what was handed out before a finish
+  stood : {v : Direction} → w.way ≡ v → (key : List ℕ) → SessionAt (run_of key p₁) s₁ → Blocks v (u.under key) (run_of key p₁)
+  stood we key c = subst (λ (i : Direction). Blocks i (u.under key) (run_of key p₁)) we (blocks (u.under key) (L key c.taken.key_block) w.way (run_of key p₁) c.taken c.out_is)
 
-module _ {A W B C D : Type 0} {u : suite.Ghosts A B C D} {x : permutation.Ghosts B} {y : hash.Ghosts C} {z : digest.Ghosts D} {w : way.Ghosts W} (L : (key : List ℕ) → Block key → Lawful (u.under key)) where
-  pub sealing_unfinished : w.way ≡ sealing → (bs : List Stretch) (fin : Bool) (p p' : Played) (s s' : Session A W B C D u x y z w) → fin ≡ false → BodyPlayed bs p p' s s' → SealingPlayed {u = u} bs fin p p' Unfinished s
-  sealing_unfinished we bs fin p p' s s' fe B = subst (λ (i : Bool). SealingPlayed {u = u} bs i p p' Unfinished s) (sym fe) λ key a.
-      let c = B.at key a in
-      let l = L key c.taken.key_block in
-      let b = by_way we (blocks (u.under key) l w.way (run_of key p') c.taken c.out_is) in
-      record { header = B.header; body = B.body key a; blocks = b; agrees = agrees sealing (u.under key) l (run_of key p') b; finish = (refl, B.answers key a) }
+  pub sealing_unfinished : (fin : Bool) → w.way ≡ sealing → fin ≡ false → SealingPlayed bs fin p p₁ Unfinished s
+  sealing_unfinished fin we fe = subst (λ (i : Bool). SealingPlayed bs i p p₁ Unfinished s) (sym fe) λ key a.
+      let c = N.at key a in
+      let b = stood we key c in
+      record { header = N.header; body = N.body key a; blocks = b; agrees = agrees sealing (u.under key) (L key c.taken.key_block) (run_of key p₁) b; finish = (refl, N.answers key a) }
 
-  pub sealing_accepted : w.way ≡ sealing → (bs : List Stretch) (fin : Bool) (p p₁ p₂ : Played) (s s₁ : Session A W B C D u x y z w) (last tag g : List ℕ) (n j : ℕ) → fin ≡ true → BodyPlayed bs p p₁ s s₁
-      → ((R : Run) → SessionAt R s₁ → SealedBy (empty_check (length R.body)) (u.under R.key) R last tag (Ok n)) → p₂.header ≡ p₁.header → p₂.body ≡ p₁.body → vec_items p₂.out ≡ vec_items p₁.out ++ g → g ≡ take j last → j ≡ n
-      → vec_items p₂.answers ≡ vec_items p₁.answers ++ Finish (Ok n) ∷ [] → SealingPlayed {u = u} bs fin p p₂ (Sealed last tag) s
-  sealing_accepted we bs fin p p₁ p₂ s s₁ last tag g n j fe B F he be oe ge je ae = subst (λ (i : Bool). SealingPlayed {u = u} bs i p p₂ (Sealed last tag) s) (sym fe) λ key a.
-      let c = B.at key a in
-      let l = L key c.taken.key_block in
-      let R = run_of key p₁ in
-      let q = seal_accepted (empty_check (length R.body)) (u.under key) R last tag n (F R c) in
-      let nh : n ≡ held R = ok_same q.1.answer in
-      let hs : held R ≡ held_of (length R.body) = held_same L R s₁ c in
-      let gh : g ≡ take (held R) last = ge ∙ ap (λ i. take i last) (je ∙ nh) in
-      let run : finished R (take (held R) last) ≡ run_of key p₂ = cc in
-      let b : Blocks sealing (u.under key) (run_of key p₂) = subst (Blocks sealing (u.under key)) run q.1.blocks in
-      let ends : SealEnds (empty_check (length R.body)) (u.under key) (finished R (take (held R) last)) (Ok n) last tag =
-      subst (λ (o : Option (Placed SessionFault)). SealEnds o (u.under key) (finished R (take (held R) last)) (Ok n) last tag) (sym q.0) (ap Ok (nh ∙ hs), q.1.seals, subst (λ (i : ℕ). drop i last ≡ replicate (16 - i) 0) hs q.1.zeros) in
-      record {
-        header = ap vec_items he ∙ B.header;
-        body = ap vec_items be ∙ B.body key a;
-        blocks = b;
-        agrees = agrees sealing (u.under key) l (run_of key p₂) b;
-        finish = (
-          Ok n,
-          last,
-          tag,
-          refl,
-          ae ∙ ap (λ i. i ++ Finish (Ok n) ∷ []) (B.answers key a),
-          subst (λ (Q : Run). SealEnds (empty_check (length Q.body)) (u.under key) Q (Ok n) last tag) run ends,
-        );
-      }
+  pub opening_unfinished : (o : Option (Bor (List ℕ))) → w.way ≡ opening → o ≡ None → OpeningPlayed bs o p p₁ Unfinished s
+  opening_unfinished o we ne = subst (λ (i : Option (Bor (List ℕ))). OpeningPlayed bs i p p₁ Unfinished s) (sym ne) λ key a.
+      let c = N.at key a in
+      let b = stood we key c in
+      record { header = N.header; body = N.body key a; blocks = b; agrees = agrees opening (u.under key) (L key c.taken.key_block) (run_of key p₁) b; finish = (refl, N.answers key a) }
 
-  pub sealing_refused : w.way ≡ sealing → (bs : List Stretch) (fin : Bool) (p p₁ p₂ : Played) (s s₁ : Session A W B C D u x y z w) (last tag : List ℕ) (e : Placed SessionFault) → fin ≡ true → BodyPlayed bs p p₁ s s₁
-      → ((R : Run) → SessionAt R s₁ → SealedBy (empty_check (length R.body)) (u.under R.key) R last tag (Err e)) → p₂.header ≡ p₁.header → p₂.body ≡ p₁.body → p₂.out ≡ p₁.out
-      → vec_items p₂.answers ≡ vec_items p₁.answers ++ Finish (Err e) ∷ [] → SealingPlayed {u = u} bs fin p p₂ (Sealed last tag) s
-  sealing_refused we bs fin p p₁ p₂ s s₁ last tag e fe B F he be oe ae = subst (λ (i : Bool). SealingPlayed {u = u} bs i p p₂ (Sealed last tag) s) (sym fe) λ key a.
-      let c = B.at key a in
-      let l = L key c.taken.key_block in
-      let R = run_of key p₁ in
-      let run : R ≡ run_of key p₂ = cc in
-      let b : Blocks sealing (u.under key) (run_of key p₂) = subst (Blocks sealing (u.under key)) run (by_way we (blocks (u.under key) l w.way R c.taken c.out_is)) in
-      record {
-        header = ap vec_items he ∙ B.header;
-        body = ap vec_items be ∙ B.body key a;
-        blocks = b;
-        agrees = agrees sealing (u.under key) l (run_of key p₂) b;
-        finish = (
-          Err e,
-          last,
-          tag,
-          refl,
-          ae ∙ ap (λ i. i ++ Finish (Err e) ∷ []) (B.answers key a),
-          subst (λ (Q : Run). SealEnds (empty_check (length Q.body)) (u.under key) Q (Err e) last tag) run (seal_refused (empty_check (length R.body)) (u.under key) R last tag e (F R c)),
-        );
-      }
+  module _ (p₂ : Played) (last : List ℕ) (r : Result ℕ (Placed SessionFault)) (F : FinishKept r last p₁ p₂) where
+    kept_answers : (key : List ℕ) → SessionAt (run_of key p) s → vec_items p₂.answers ≡ vec_items p.answers ++ body_answers (vec_items p.body) bs ++ Finish r ∷ []
+    kept_answers key a = F.answers ∙ ap (λ i. i ++ Finish r ∷ []) (N.answers key a)
 
-  pub opening_unfinished : w.way ≡ opening → (bs : List Stretch) (o : Option (Bor (List ℕ))) (p p' : Played) (s s' : Session A W B C D u x y z w) → o ≡ None → BodyPlayed bs p p' s s' → OpeningPlayed {u = u} bs o p p' Unfinished s
-  opening_unfinished we bs o p p' s s' ne B = subst (λ (i : Option (Bor (List ℕ))). OpeningPlayed {u = u} bs i p p' Unfinished s) (sym ne) λ key a.
-      let c = B.at key a in
-      let l = L key c.taken.key_block in
-      let b = by_way we (blocks (u.under key) l w.way (run_of key p') c.taken c.out_is) in
-      record { header = B.header; body = B.body key a; blocks = b; agrees = agrees opening (u.under key) l (run_of key p') b; finish = (refl, B.answers key a) }
+    pub sealing_finished : (fin : Bool) (tag : List ℕ) → w.way ≡ sealing → fin ≡ true → ((R : Run) → SessionAt R s₁ → SealedBy (empty_check (length R.body)) (u.under R.key) R last tag r) → SealingPlayed bs fin p p₂ (Sealed last tag) s
+    sealing_finished fin tag we fe S = subst (λ (i : Bool). SealingPlayed bs i p p₂ (Sealed last tag) s) (sym fe) λ key a.
+        let c = N.at key a in
+        let l = L key c.taken.key_block in
+        let R = run_of key p₁ in
+        let q = sealed_end (empty_check (length R.body)) (u.under key) R last tag r (stood we key c) (held_same L R s₁ c) (S R c) in
+        let run = finished_run key last r p₁ p₂ F in
+        let b : Blocks sealing (u.under key) (run_of key p₂) = subst (Blocks sealing (u.under key)) run q.0 in
+        record {
+          header = ap vec_items F.header ∙ N.header;
+          body = ap vec_items F.body ∙ N.body key a;
+          blocks = b;
+          agrees = agrees sealing (u.under key) l (run_of key p₂) b;
+          finish = (r, last, tag, refl, kept_answers key a, subst (λ (Q : Run). SealEnds (empty_check (length Q.body)) (u.under key) Q r last tag) run q.1);
+        }
 
-  pub opening_accepted : w.way ≡ opening → (bs : List Stretch) (o : Option (Bor (List ℕ))) (t : Bor (List ℕ)) (p p₁ p₂ : Played) (s s₁ : Session A W B C D u x y z w) (last g : List ℕ) (n j : ℕ) → o ≡ Some t → BodyPlayed bs p p₁ s s₁
-      → ((R : Run) → SessionAt R s₁ → OpenedBy (end_check (length R.body) (length t.now)) (u.under R.key) R t.now last (Ok n)) → p₂.header ≡ p₁.header → p₂.body ≡ p₁.body → vec_items p₂.out ≡ vec_items p₁.out ++ g
-      → g ≡ take j last → j ≡ n → vec_items p₂.answers ≡ vec_items p₁.answers ++ Finish (Ok n) ∷ [] → OpeningPlayed {u = u} bs o p p₂ (Opened last) s
-  opening_accepted we bs o t p p₁ p₂ s s₁ last g n j te B F he be oe ge je ae = subst (λ (i : Option (Bor (List ℕ))). OpeningPlayed {u = u} bs i p p₂ (Opened last) s) (sym te) λ key a.
-      let c = B.at key a in
-      let l = L key c.taken.key_block in
-      let R = run_of key p₁ in
-      let q = open_accepted (end_check (length R.body) (length t.now)) (u.under key) R t.now last n (F R c) in
-      let hs : held R ≡ held_of (length R.body) = held_same L R s₁ c in
-      let gh : g ≡ take (held R) last = ge ∙ ap (λ i. take i last) (je ∙ q.1.0) in
-      let run : finished R (take (held R) last) ≡ run_of key p₂ = cc in
-      let b : Blocks opening (u.under key) (run_of key p₂) = subst (Blocks opening (u.under key)) run q.1.1.blocks in
-      let nh : n ≡ held_of (length R.body) = q.1.0 ∙ hs in
-      let ends : OpenEnds (end_check (length R.body) (length t.now)) (u.under key) (finished R (take (held R) last)) t.now (Ok n) last =
-      subst (λ (i : Option (Placed SessionFault)). OpenEnds i (u.under key) (finished R (take (held R) last)) t.now (Ok n) last) (sym q.0) (nh, q.1.1.seals, q.1.1.only, subst (λ (i : ℕ). drop i last ≡ replicate (16 - i) 0) (sym q.1.0) q.1.1.zeros) in
-      record {
-        header = ap vec_items he ∙ B.header;
-        body = ap vec_items be ∙ B.body key a;
-        blocks = b;
-        agrees = agrees opening (u.under key) l (run_of key p₂) b;
-        finish = (
-          Ok n,
-          last,
-          refl,
-          ae ∙ ap (λ i. i ++ Finish (Ok n) ∷ []) (B.answers key a),
-          subst (λ (Q : Run). OpenEnds (end_check (length Q.body) (length t.now)) (u.under key) Q t.now (Ok n) last) run ends,
-        );
-      }
-
-  pub opening_refused : w.way ≡ opening → (bs : List Stretch) (o : Option (Bor (List ℕ))) (t : Bor (List ℕ)) (p p₁ p₂ : Played) (s s₁ : Session A W B C D u x y z w) (last : List ℕ) (e : Placed SessionFault) → o ≡ Some t → BodyPlayed bs p p₁ s s₁
-      → ((R : Run) → SessionAt R s₁ → OpenedBy (end_check (length R.body) (length t.now)) (u.under R.key) R t.now last (Err e)) → p₂.header ≡ p₁.header → p₂.body ≡ p₁.body → p₂.out ≡ p₁.out
-      → vec_items p₂.answers ≡ vec_items p₁.answers ++ Finish (Err e) ∷ [] → OpeningPlayed {u = u} bs o p p₂ (Opened last) s
-  opening_refused we bs o t p p₁ p₂ s s₁ last e te B F he be oe ae = subst (λ (i : Option (Bor (List ℕ))). OpeningPlayed {u = u} bs i p p₂ (Opened last) s) (sym te) λ key a.
-      let c = B.at key a in
-      let l = L key c.taken.key_block in
-      let R = run_of key p₁ in
-      let run : R ≡ run_of key p₂ = cc in
-      let b : Blocks opening (u.under key) (run_of key p₂) = subst (Blocks opening (u.under key)) run (by_way we (blocks (u.under key) l w.way R c.taken c.out_is)) in
-      record {
-        header = ap vec_items he ∙ B.header;
-        body = ap vec_items be ∙ B.body key a;
-        blocks = b;
-        agrees = agrees opening (u.under key) l (run_of key p₂) b;
-        finish = (
-          Err e,
-          last,
-          refl,
-          ae ∙ ap (λ i. i ++ Finish (Err e) ∷ []) (B.answers key a),
-          subst (λ (Q : Run). OpenEnds (end_check (length Q.body) (length t.now)) (u.under key) Q t.now (Err e) last) run (open_refused (end_check (length R.body) (length t.now)) (u.under key) R t.now last e (F R c)),
-        );
-      }
+    pub opening_finished : (o : Option (Bor (List ℕ))) (t : Bor (List ℕ)) → w.way ≡ opening → o ≡ Some t → ((R : Run) → SessionAt R s₁ → OpenedBy (end_check (length R.body) (length t.now)) (u.under R.key) R t.now last r) → OpeningPlayed bs o p p₂ (Opened last) s
+    opening_finished o t we te S = subst (λ (i : Option (Bor (List ℕ))). OpeningPlayed bs i p p₂ (Opened last) s) (sym te) λ key a.
+        let c = N.at key a in
+        let l = L key c.taken.key_block in
+        let R = run_of key p₁ in
+        let q = opened_end (end_check (length R.body) (length t.now)) (u.under key) R t.now last r (stood we key c) (held_same L R s₁ c) (S R c) in
+        let run = finished_run key last r p₁ p₂ F in
+        let b : Blocks opening (u.under key) (run_of key p₂) = subst (Blocks opening (u.under key)) run q.0 in
+        record {
+          header = ap vec_items F.header ∙ N.header;
+          body = ap vec_items F.body ∙ N.body key a;
+          blocks = b;
+          agrees = agrees opening (u.under key) l (run_of key p₂) b;
+          finish = (r, last, refl, kept_answers key a, subst (λ (Q : Run). OpenEnds (end_check (length Q.body) (length t.now)) (u.under key) Q t.now r last) run q.1);
+        }
 
 -- from new on: p is the empty log, and s the new heading
 module _ {A B C D : Type 0} {u : suite.Ghosts A B C D} {x : permutation.Ghosts B} {y : hash.Ghosts C} {z : digest.Ghosts D} (key : List ℕ) (hs : List Stretch) (p p₁ : Played) (s s₁ : Heading A B C D u x y z)

@@ -1,5 +1,5 @@
 // The body call, of a sealing as of an opening.
-ghost use Rattle.std.specs.Prelude.{length};
+ghost use Rattle.std.specs.Prelude.{◌≤◌, length, IfOk};
 ghost use Rattle.session.specs.Runs.{Run};
 ghost use Rattle.session.specs.Sessions.{BodyBy, SessionAt, body_check, held};
 
@@ -14,7 +14,8 @@ impl<S: Suite, W: Way> Session<S, W> {
     // Takes a stretch of the message, or of an opening's ciphertext, and writes to `out` every whole block that at least one more byte
     // follows.
     pub fn body(&mut self, input: &[u8], out: &mut [u8]) -> Result<Given, Placed<SessionFault>>
-        ensures { (R : Run) → SessionAt R self.old → BodyBy (body_check (length R.body) (held R) (length input.now) (length out.old)) R input.now out.old out.new self.old self.new result }
+        ensures room { IfOk result (λ given. given.written ≤ length out.old) }
+        ensures call { (R : Run) → SessionAt R self.old → BodyBy (body_check (length R.body) (held R) (length input.now) (length out.old)) R input.now out.old out.new self.old self.new result }
     {
         if input.len() > BODY_MOST - self.total {
             return Err(Placed {

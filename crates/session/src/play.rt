@@ -5,7 +5,7 @@ ghost use Rattle.session.specs.Plays.{CoursePlayed, OpeningPlayed, SealingPlayed
 use crate::keys::KeyPlace;
 use crate::logs::Played;
 use crate::plays::{body_calls, header_calls};
-use crate::script::{Answer, Course, End, Stretch};
+use crate::script::{Course, End, Stretch};
 use crate::types::{Heading, Opening, Sealing};
 use std::alloc::{AllocError, Global};
 use suite::Suite;
@@ -29,6 +29,8 @@ pub fn play<S: Suite>(
     }
 }
 
+// The body calls and the end of a sealing. Kept: its finish and an opening's differ in what they take, in what they write, and in what
+// is promised of them.
 fn play_sealing<S: Suite>(
     heap: Global,
     mut sealing: Sealing<S>,
@@ -44,17 +46,9 @@ fn play_sealing<S: Suite>(
     }
     let mut last = [0; 16];
     let mut tag = [0; 16];
-    match sealing.finish(&mut last, &mut tag) {
-        Ok(len) => {
-            log.out.extend_from_slice(&last[0..len])?;
-            log.answers.push(Answer::Finish(Ok(len)))?;
-            Ok((log, End::Sealed { last, tag }))
-        }
-        Err(fault) => {
-            log.answers.push(Answer::Finish(Err(fault)))?;
-            Ok((log, End::Sealed { last, tag }))
-        }
-    }
+    let answer = sealing.finish(&mut last, &mut tag);
+    log.keep_finish(&last, answer)?;
+    Ok((log, End::Sealed { last, tag }))
 }
 
 fn play_opening<S: Suite>(
@@ -71,15 +65,7 @@ fn play_opening<S: Suite>(
         return Ok((log, End::Unfinished));
     };
     let mut last = [0; 16];
-    match opening.finish(tag, &mut last) {
-        Ok(len) => {
-            log.out.extend_from_slice(&last[0..len])?;
-            log.answers.push(Answer::Finish(Ok(len)))?;
-            Ok((log, End::Opened { last }))
-        }
-        Err(fault) => {
-            log.answers.push(Answer::Finish(Err(fault)))?;
-            Ok((log, End::Opened { last }))
-        }
-    }
+    let answer = opening.finish(tag, &mut last);
+    log.keep_finish(&last, answer)?;
+    Ok((log, End::Opened { last }))
 }

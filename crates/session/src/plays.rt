@@ -4,7 +4,7 @@ ghost use Rattle.session.specs.Playing.{BodyPlayed, HeaderPlayed};
 
 use crate::logs::Played;
 use crate::rows::Way;
-use crate::script::{Answer, Stretch};
+use crate::script::Stretch;
 use crate::types::{Heading, Session};
 use std::alloc::{AllocError, Global};
 use suite::Suite;
@@ -17,17 +17,8 @@ pub(crate) fn header_call<S: Suite>(
 ) -> Result<(), AllocError>
     ensures { OnOk result (HeaderPlayed (stretch.entry ∷ []) log.old log.new heading.old heading.new) }
 {
-    match heading.header(stretch.bytes) {
-        Ok(()) => {
-            log.header.extend_from_slice(stretch.bytes)?;
-            log.answers.push(Answer::Header(Ok(())))?;
-            Ok(())
-        }
-        Err(fault) => {
-            log.answers.push(Answer::Header(Err(fault)))?;
-            Ok(())
-        }
-    }
+    let answer = heading.header(stretch.bytes);
+    log.keep_header(stretch.bytes, answer)
 }
 
 // Header calls, one after another.
@@ -54,19 +45,8 @@ fn body_call<S: Suite, W: Way>(
     ensures { OnOk result (BodyPlayed (stretch.entry ∷ []) log.old log.new session.old session.new) }
 {
     let mut buffer = vec![in heap; 0; stretch.room]?;
-    match session.body(stretch.bytes, &mut buffer) {
-        Ok(given) => {
-            log.body.extend_from_slice(stretch.bytes)?;
-            buffer.truncate(given.written);
-            log.out.extend_from_slice(&buffer)?;
-            log.answers.push(Answer::Body(Ok(given)))?;
-            Ok(())
-        }
-        Err(fault) => {
-            log.answers.push(Answer::Body(Err(fault)))?;
-            Ok(())
-        }
-    }
+    let answer = session.body(stretch.bytes, &mut buffer);
+    log.keep_body(stretch.bytes, &buffer, answer)
 }
 
 // Body calls, one after another.

@@ -8,8 +8,8 @@ use Rattle.session.proofs.Promises.{blocks}
 use Rattle.session.proofs.Stretches.{out_length, stretched, left}
 use Rattle.session.proofs.types.Session.body.Goals as goal
 
-pub returns-then-out-written : goal.returns-then-out-written
-returns-then-out-written g c =
+pub returns-then-out-written-clause-call : goal.returns-then-out-written-clause-call
+returns-then-out-written-clause-call g c =
     λ R a.
     let f = g.S.Suite.under R.key in
     let P = c.args.input.now in
@@ -20,8 +20,8 @@ returns-then-out-written g c =
     let d : ltb (length c.args.out.now) (writes (held R + length P)) ≡ true = lt-ltb (length c.args.out.now) (writes (held R + length P)) (omega arith) in
     rw (e, d) ((cc), refl, refl)
 
-pub returns : goal.returns
-returns g c =
+pub returns-clause-call : goal.returns-clause-call
+returns-clause-call g c =
     λ R a.
     let f = g.S.Suite.under R.key in
     let M = R.body in
