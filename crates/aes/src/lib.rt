@@ -32,6 +32,7 @@ impl Schedule {
         let mut keys = [key; 11];
         let mut k = key;
         let mut rc = 1;
+        // Kept with an index: the borrow checker does not cover writing arrays through `&mut keys[1..]`.
         for i in 0..10 {
             let next = next_key(k, rc);
             rc = field::double(rc);
@@ -47,8 +48,8 @@ impl Schedule {
         ensures { result ≡ rounds self.now.keys n start }
     {
         let mut s = start;
-        for i in 0..n {
-            s = add_round_key(self.keys[i + 1], round(s));
+        for key in &self.keys[1..n + 1] {
+            s = add_round_key(*key, round(s));
         }
         s
     }
@@ -59,8 +60,8 @@ impl Schedule {
         ensures { result ≡ unrounds self.now.keys n start }
     {
         let mut s = start;
-        for i in (0..n).rev() {
-            s = unround(add_round_key(self.keys[i + 1], s));
+        for key in self.keys[1..n + 1].iter().rev() {
+            s = unround(add_round_key(*key, s));
         }
         s
     }

@@ -1,6 +1,7 @@
 // The steps on a state of four columns of four bytes, and whole rounds of them. Each takes the state and returns it.
 //
 // Only `round` and `unround` mix columns, so that word tables can take the place of their bodies.
+ghost use Rattle.aes.specs.Grouping.{ByColumns};
 ghost use Rattle.aes.specs.State.{add_round_key, inv_mix_columns, inv_shift_rows, inv_sub_bytes, mix_columns, shift_rows, sub_bytes};
 ghost use Rattle.field.specs.Columns.{mixed, unmixed};
 ghost use Rattle.field.specs.Field.{mul};
@@ -10,48 +11,14 @@ ghost use Rattle.std.specs.Prelude.{◌≡◌, [], ◌∷◌};
 pub(crate) fn sub_bytes(s: [u8; 16]) -> [u8; 16]
     ensures { result ≡ sub_bytes s }
 {
-    [
-        field::sub_byte(s[0]),
-        field::sub_byte(s[1]),
-        field::sub_byte(s[2]),
-        field::sub_byte(s[3]),
-        field::sub_byte(s[4]),
-        field::sub_byte(s[5]),
-        field::sub_byte(s[6]),
-        field::sub_byte(s[7]),
-        field::sub_byte(s[8]),
-        field::sub_byte(s[9]),
-        field::sub_byte(s[10]),
-        field::sub_byte(s[11]),
-        field::sub_byte(s[12]),
-        field::sub_byte(s[13]),
-        field::sub_byte(s[14]),
-        field::sub_byte(s[15]),
-    ]
+    s.map(field::sub_byte)
 }
 
 // InvSubBytes.
 pub(crate) fn unsub_bytes(s: [u8; 16]) -> [u8; 16]
     ensures { result ≡ inv_sub_bytes s }
 {
-    [
-        field::unsub_byte(s[0]),
-        field::unsub_byte(s[1]),
-        field::unsub_byte(s[2]),
-        field::unsub_byte(s[3]),
-        field::unsub_byte(s[4]),
-        field::unsub_byte(s[5]),
-        field::unsub_byte(s[6]),
-        field::unsub_byte(s[7]),
-        field::unsub_byte(s[8]),
-        field::unsub_byte(s[9]),
-        field::unsub_byte(s[10]),
-        field::unsub_byte(s[11]),
-        field::unsub_byte(s[12]),
-        field::unsub_byte(s[13]),
-        field::unsub_byte(s[14]),
-        field::unsub_byte(s[15]),
-    ]
+    s.map(field::unsub_byte)
 }
 
 // ShiftRows: row r moves by r places.
@@ -78,24 +45,7 @@ pub(crate) fn unshift_rows(s: [u8; 16]) -> [u8; 16]
 pub(crate) fn add_round_key(k: [u8; 16], s: [u8; 16]) -> [u8; 16]
     ensures { result ≡ add_round_key k s }
 {
-    [
-        s[0] ^ k[0],
-        s[1] ^ k[1],
-        s[2] ^ k[2],
-        s[3] ^ k[3],
-        s[4] ^ k[4],
-        s[5] ^ k[5],
-        s[6] ^ k[6],
-        s[7] ^ k[7],
-        s[8] ^ k[8],
-        s[9] ^ k[9],
-        s[10] ^ k[10],
-        s[11] ^ k[11],
-        s[12] ^ k[12],
-        s[13] ^ k[13],
-        s[14] ^ k[14],
-        s[15] ^ k[15],
-    ]
+    poet::xor(s, k)
 }
 
 // A column mixed.
@@ -114,17 +64,25 @@ fn mix_column(a: u8, b: u8, c: u8, d: u8) -> [u8; 4]
     ]
 }
 
+// Four columns, each by a function of its four bytes.
+fn by_columns<F: Fn(u8, u8, u8, u8) -> [u8; 4]>(column: F, s: [u8; 16]) -> [u8; 16]
+    requires { F.IsAlwaysCallable column }
+    ensures { ByColumns (F.post column) s result }
+{
+    let [a0, a1, a2, a3] = column(s[0], s[1], s[2], s[3]);
+    let [b0, b1, b2, b3] = column(s[4], s[5], s[6], s[7]);
+    let [c0, c1, c2, c3] = column(s[8], s[9], s[10], s[11]);
+    let [d0, d1, d2, d3] = column(s[12], s[13], s[14], s[15]);
+    [
+        a0, a1, a2, a3, b0, b1, b2, b3, c0, c1, c2, c3, d0, d1, d2, d3,
+    ]
+}
+
 // MixColumns.
 fn mix_columns(s: [u8; 16]) -> [u8; 16]
     ensures { result ≡ mix_columns s }
 {
-    let [a0, a1, a2, a3] = mix_column(s[0], s[1], s[2], s[3]);
-    let [b0, b1, b2, b3] = mix_column(s[4], s[5], s[6], s[7]);
-    let [c0, c1, c2, c3] = mix_column(s[8], s[9], s[10], s[11]);
-    let [d0, d1, d2, d3] = mix_column(s[12], s[13], s[14], s[15]);
-    [
-        a0, a1, a2, a3, b0, b1, b2, b3, c0, c1, c2, c3, d0, d1, d2, d3,
-    ]
+    by_columns(mix_column, s)
 }
 
 // 14, 9, 13 and 11 times a byte: a column of the inverse matrix.
@@ -157,13 +115,7 @@ fn unmix_column(a: u8, b: u8, c: u8, d: u8) -> [u8; 4]
 fn unmix_columns(s: [u8; 16]) -> [u8; 16]
     ensures { result ≡ inv_mix_columns s }
 {
-    let [a0, a1, a2, a3] = unmix_column(s[0], s[1], s[2], s[3]);
-    let [b0, b1, b2, b3] = unmix_column(s[4], s[5], s[6], s[7]);
-    let [c0, c1, c2, c3] = unmix_column(s[8], s[9], s[10], s[11]);
-    let [d0, d1, d2, d3] = unmix_column(s[12], s[13], s[14], s[15]);
-    [
-        a0, a1, a2, a3, b0, b1, b2, b3, c0, c1, c2, c3, d0, d1, d2, d3,
-    ]
+    by_columns(unmix_column, s)
 }
 
 // A whole round, but for its key.

@@ -31,8 +31,7 @@ mod tests {
 
     #[test]
     fn table(rt: HostRuntime) {
-        for i in 0..12usize {
-            let v = VECTORS[i];
+        for v in &VECTORS {
             let s = Schedule::new(*v.key);
             assert_eq!(rt; s.encipher(*v.plain), *v.ten);
             assert_eq!(rt; s.decipher(*v.ten), *v.plain);

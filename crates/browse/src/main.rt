@@ -6,8 +6,8 @@
 mod shown;
 
 use anyhow::anyhow;
+use fault::halt::Halt;
 use fault::kinds::{ConsoleFault, Placed};
-use reading::halt::Halt;
 use reading::play::play;
 use reading::script::Ask;
 use sheet::entry::Kind;
@@ -51,16 +51,7 @@ fn ask_of(word: &str) -> Option<Ask> {
 // Opens the sheet and plays the calls.
 fn browse(rt: &HostRuntime, d: Delivery<'_>, asks: &[Ask]) -> anyhow::Result<()> {
     let mut out = vec![in rt.alloc(); 0; d.ciphertext.len()]?;
-    match play(
-        rt.alloc(),
-        d.suite,
-        d.key,
-        d.header,
-        d.ciphertext,
-        d.tag,
-        &mut out,
-        asks,
-    ) {
+    match play(rt.alloc(), d, &mut out, asks) {
         Ok(replies) => {
             for reply in &replies {
                 show(rt, reply)?;
@@ -73,10 +64,6 @@ fn browse(rt: &HostRuntime, d: Delivery<'_>, asks: &[Ask]) -> anyhow::Result<()>
 }
 
 fn refuse(rt: &HostRuntime, f: Placed<ConsoleFault>) -> anyhow::Result<()> {
-    let number = f.fault.number();
-    let layer = f.fault.layer();
-    let name = layer.name();
-    let place = f.place;
-    println!(rt; "refused {number} by the {name} layer at {place}")?;
+    println!(rt; "{f}")?;
     Ok(())
 }

@@ -1,27 +1,28 @@
 // What a call answered, as a line.
+use fault::shown::Fault;
 use listing::line::line;
-use reading::script::{Copied, Reply, Value};
-use sheet::entry::Entry;
+use reading::script::Reply;
+use sheet::entry::{Entry, Field};
 use std::io::Write;
 
 pub(crate) fn show(rt: &HostRuntime, reply: &Reply) -> anyhow::Result<()> {
     match reply {
-        Reply::Entry(copied) => show_entry(rt, copied),
-        Reply::End => Ok(println!(rt; "end")?),
-        Reply::Refused(fault) => {
+        Reply::Next(Ok(Some(entry))) => show_entry(rt, entry),
+        Reply::Next(Ok(None)) => Ok(println!(rt; "end")?),
+        Reply::Next(Err(fault)) => {
             let number = fault.fault.number();
             Ok(println!(rt; "refused {number}")?)
         }
         Reply::Field(None) => Ok(println!(rt; "absent")?),
-        Reply::Field(Some(value)) => show_value(rt, value),
+        Reply::Field(Some(field)) => show_field(rt, field),
     }
 }
 
-fn show_value(rt: &HostRuntime, value: &Value) -> anyhow::Result<()> {
-    match value {
-        Value::Code(s) | Value::Parent(s) | Value::Drawing(s) => show_text(rt, s),
-        Value::Count(n) | Value::Months(n) => Ok(println!(rt; "{n}")?),
-        Value::Landing(z) => Ok(println!(rt; "{z}")?),
+fn show_field(rt: &HostRuntime, field: &Field<Vec<u8>>) -> anyhow::Result<()> {
+    match field {
+        Field::Code(s) | Field::Parent(s) | Field::Drawing(s) => show_text(rt, s),
+        Field::Count(n) | Field::Months(n) => Ok(println!(rt; "{n}")?),
+        Field::Landing(z) => Ok(println!(rt; "{z}")?),
     }
 }
 
@@ -31,14 +32,14 @@ fn show_text(rt: &HostRuntime, s: &[u8]) -> anyhow::Result<()> {
 }
 
 // An entry as its line of the list.
-fn show_entry(rt: &HostRuntime, c: &Copied) -> anyhow::Result<()> {
+fn show_entry(rt: &HostRuntime, e: &Entry<Vec<u8>>) -> anyhow::Result<()> {
     let entry = Entry {
-        code: &c.code,
-        parent: part(&c.parent),
-        count: c.count,
-        landing: c.landing,
-        months: c.months,
-        drawing: part(&c.drawing),
+        code: e.code.as_slice(),
+        parent: e.parent.as_deref(),
+        count: e.count,
+        landing: e.landing,
+        months: e.months,
+        drawing: e.drawing.as_deref(),
     };
     let mut row = [0; 70];
     match line(entry, &mut row, 0) {
@@ -47,12 +48,5 @@ fn show_entry(rt: &HostRuntime, c: &Copied) -> anyhow::Result<()> {
             let number = fault.fault.number();
             Ok(println!(rt; "refused {number}")?)
         }
-    }
-}
-
-fn part(o: &Option<Vec<u8>>) -> Option<&[u8]> {
-    match o {
-        Some(v) => Some(v.as_slice()),
-        None => None,
     }
 }

@@ -10,7 +10,8 @@ use Rattle.poet.specs.Seal.{Seals}
 use Rattle.session.specs.Calls.{checks, tag_check}
 use Rattle.sheet.specs.Entries.{Item, AllGood, sheet_of}
 use Rattle.sheet.specs.Calls.{Broken}
-use Rattle.delivery.specs.Told.{not_listed}
+use Rattle.delivery.specs.Told.{suite_of, not_listed}
+use Rattle.wire.specs.Wire.{Parts}
 
 -- Under the header H, a list of one or more good entries is written and sealed to the ciphertext C and the tag T.
 pub record SheetSeals (f : Functions) (H : List ℕ) (es : List Item) (C T : List ℕ) : Type 0 where
@@ -53,3 +54,7 @@ open_checks key H C T o = checks (length key) (length H) (length C) (length o) (
 abbrev pub SheetUnder : Option (List ℕ → Functions) → (n : ℕ) (key H C T o o' : List ℕ) → Result ℕ (Placed SheetFault) → Type 0
 SheetUnder None n key H C T o o' r = (r ≡ Err (lifted (not_listed n))) × (o' ≡ o)
 SheetUnder (Some under) n key H C T o o' r = SheetBy (open_checks key H C T o) (under key) H C T o o' r
+
+-- opening the sheet of a delivery with the parts p
+abbrev pub SheetOf : Parts → (o o' : List ℕ) → Result ℕ (Placed SheetFault) → Type 0
+SheetOf p o o' r = SheetUnder (suite_of p.suite) p.suite p.key p.header p.ciphertext p.tag o o' r

@@ -1,9 +1,9 @@
 // Sealing and opening of whole buffers under a suite that is told by its number. A number that is not listed is refused before every
 // other check.
-ghost use Rattle.delivery.specs.Told.{OpeningUnder, SealingUnder, not_listed, suite_of};
-ghost use Rattle.std.specs.Prelude.{◌≡◌};
+ghost use Rattle.delivery.specs.Told.{OpeningUnder, SealingUnder, suite_of};
 
-use fault::kinds::{KeyFault, Placed, SessionFault};
+use fault::kinds::{Placed, SessionFault};
+use suites::listed::Listed;
 use suites::mirror::Mirror;
 use suites::shaft::Shaft;
 
@@ -17,10 +17,9 @@ pub fn seal(
 ) -> Result<usize, Placed<SessionFault>>
     ensures { SealingUnder (suite_of suite) suite key.now header.now message.now out.old tag.old out.new tag.new result }
 {
-    match suite {
-        1 => session::whole::seal::<Shaft>(key, header, message, out, tag),
-        4 => session::whole::seal::<Mirror>(key, header, message, out, tag),
-        _ => Err(unlisted(suite)),
+    match Listed::try_from(suite)? {
+        Listed::Shaft => session::whole::seal::<Shaft>(key, header, message, out, tag),
+        Listed::Mirror => session::whole::seal::<Mirror>(key, header, message, out, tag),
     }
 }
 
@@ -34,18 +33,8 @@ pub fn open(
 ) -> Result<usize, Placed<SessionFault>>
     ensures { OpeningUnder (suite_of suite) suite key.now header.now ciphertext.now tag.now out.old out.new result }
 {
-    match suite {
-        1 => session::whole::open::<Shaft>(key, header, ciphertext, tag, out),
-        4 => session::whole::open::<Mirror>(key, header, ciphertext, tag, out),
-        _ => Err(unlisted(suite)),
-    }
-}
-
-fn unlisted(suite: u8) -> Placed<SessionFault>
-    ensures { result ≡ not_listed suite }
-{
-    Placed {
-        fault: SessionFault::Key(KeyFault::Suite),
-        place: suite as usize,
+    match Listed::try_from(suite)? {
+        Listed::Shaft => session::whole::open::<Shaft>(key, header, ciphertext, tag, out),
+        Listed::Mirror => session::whole::open::<Mirror>(key, header, ciphertext, tag, out),
     }
 }

@@ -10,11 +10,13 @@ use Rattle.fault.specs.declared.kinds.SheetFault.{SheetFault}
 use Rattle.fault.specs.declared.kinds.SheetFault.TheVariants as sheet
 use Rattle.fault.specs.declared.kinds.ConsoleFault.{ConsoleFault}
 use Rattle.fault.specs.declared.kinds.ConsoleFault.TheVariants as console
-use Rattle.fault.specs.declared.kinds.Placed.{Placed}
 
 abbrev pub key_number : KeyFault → ℕ
 key_number Suite = 2
 key_number Length = 3
+
+abbrev pub key_layer : KeyFault → Layer
+key_layer k = KeyLayer
 
 abbrev pub number_of : SessionFault → ℕ
 number_of (Key k) = key_number k
@@ -64,5 +66,6 @@ layer_name SessionLayer = codes "session"
 layer_name SheetLayer = codes "sheet"
 layer_name ConsoleLayer = codes "console"
 
-abbrev pub shown_fault : Placed SessionFault → List ℕ
-shown_fault x = codes "refused " ++ (decimal (number_of x.fault) ++ (codes " by the " ++ (layer_name (layer_of x.fault) ++ (codes " layer at " ++ decimal x.place))))
+-- the line of a fault by its number and layer, and its place
+abbrev pub shown_fault : (number : ℕ) → Layer → (place : ℕ) → List ℕ
+shown_fault number layer place = codes "refused " ++ (decimal number ++ (codes " by the " ++ (layer_name layer ++ (codes " layer at " ++ decimal place))))

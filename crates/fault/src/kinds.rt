@@ -69,6 +69,7 @@ pub struct Placed<F> {
     pub place: usize,
 }
 
+// Kept for each pair of layers: one impl over all of them would overlap with std's `From<T> for T`.
 impl From<Placed<KeyFault>> for Placed<SessionFault> {
     ghost from_gives = { λ e r. (r.fault ≡ Key e.fault) × (r.place ≡ e.place) };
 

@@ -1,6 +1,7 @@
 // What a fault is called: its layer, its number, and a line of text.
-ghost use Rattle.std.specs.Prelude.{◌≡◌, Some};
-ghost use Rattle.fault.specs.Numbers.{console_layer, console_number, key_number, layer_name, layer_of, number_of, sheet_layer, sheet_number, shown_fault};
+ghost use Rattle.std.specs.Prelude.{◌≡◌, ℕ, Some};
+ghost use Rattle.fault.specs.declared.kinds.Layer.{Layer};
+ghost use Rattle.fault.specs.Numbers.{console_layer, console_number, key_layer, key_number, layer_name, layer_of, number_of, sheet_layer, sheet_number, shown_fault};
 
 use crate::kinds::{ConsoleFault, KeyFault, Layer, Placed, SessionFault, SheetFault};
 use std::fmt;
@@ -18,21 +19,53 @@ impl Layer {
     }
 }
 
-impl KeyFault {
-    pub fn number(&self) -> u8
-        ensures { result ≡ key_number self.now }
-    {
+impl fmt::Display for Layer {
+    ghost output = { λ l. Some (layer_name l) };
+
+    fn fmt<W: fmt::Write>(&self, f: &mut fmt::Formatter<W>) -> fmt::Result {
+        let name = self.name();
+        write!(f, "{name}")
+    }
+}
+
+// A fault of any layer has a number, and the layer that found it.
+pub trait Fault {
+    ghost number: { Self → ℕ };
+
+    ghost layer: { Self → Layer };
+
+    fn number(&self) -> u8
+        ensures { result ≡ number self.now };
+
+    fn layer(&self) -> Layer
+        ensures { result ≡ layer self.now };
+}
+
+impl Fault for KeyFault {
+    ghost number = { key_number };
+
+    ghost layer = { key_layer };
+
+    fn number(&self) -> u8 {
         match self {
             KeyFault::Suite => 2,
             KeyFault::Length => 3,
         }
     }
+
+    fn layer(&self) -> Layer {
+        match self {
+            KeyFault::Suite | KeyFault::Length => Layer::Key,
+        }
+    }
 }
 
-impl SessionFault {
-    pub fn number(&self) -> u8
-        ensures { result ≡ number_of self.now }
-    {
+impl Fault for SessionFault {
+    ghost number = { number_of };
+
+    ghost layer = { layer_of };
+
+    fn number(&self) -> u8 {
         match self {
             SessionFault::Key(k) => k.number(),
             SessionFault::Header => 4,
@@ -44,20 +77,20 @@ impl SessionFault {
         }
     }
 
-    pub fn layer(&self) -> Layer
-        ensures { result ≡ layer_of self.now }
-    {
+    fn layer(&self) -> Layer {
         match self {
-            SessionFault::Key(_) => Layer::Key,
+            SessionFault::Key(k) => k.layer(),
             _ => Layer::Session,
         }
     }
 }
 
-impl SheetFault {
-    pub fn number(&self) -> u8
-        ensures { result ≡ sheet_number self.now }
-    {
+impl Fault for SheetFault {
+    ghost number = { sheet_number };
+
+    ghost layer = { sheet_layer };
+
+    fn number(&self) -> u8 {
         match self {
             SheetFault::Session(s) => s.number(),
             SheetFault::Room => 6,
@@ -68,9 +101,7 @@ impl SheetFault {
         }
     }
 
-    pub fn layer(&self) -> Layer
-        ensures { result ≡ sheet_layer self.now }
-    {
+    fn layer(&self) -> Layer {
         match self {
             SheetFault::Session(s) => s.layer(),
             _ => Layer::Sheet,
@@ -78,19 +109,19 @@ impl SheetFault {
     }
 }
 
-impl ConsoleFault {
-    pub fn number(&self) -> u8
-        ensures { result ≡ console_number self.now }
-    {
+impl Fault for ConsoleFault {
+    ghost number = { console_number };
+
+    ghost layer = { console_layer };
+
+    fn number(&self) -> u8 {
         match self {
             ConsoleFault::Sheet(s) => s.number(),
             ConsoleFault::Input => 1,
         }
     }
 
-    pub fn layer(&self) -> Layer
-        ensures { result ≡ console_layer self.now }
-    {
+    fn layer(&self) -> Layer {
         match self {
             ConsoleFault::Sheet(s) => s.layer(),
             ConsoleFault::Input => Layer::Console,
@@ -98,14 +129,13 @@ impl ConsoleFault {
     }
 }
 
-impl fmt::Display for Placed<SessionFault> {
-    ghost output = { λ x. Some (shown_fault x) };
+impl<F: Fault> fmt::Display for Placed<F> {
+    ghost output = { λ x. Some (shown_fault (F.number x.fault) (F.layer x.fault) x.place) };
 
     fn fmt<W: fmt::Write>(&self, f: &mut fmt::Formatter<W>) -> fmt::Result {
         let number = self.fault.number();
-        let place = self.place;
         let layer = self.fault.layer();
-        let name = layer.name();
-        write!(f, "refused {number} by the {name} layer at {place}")
+        let place = self.place;
+        write!(f, "refused {number} by the {layer} layer at {place}")
     }
 }

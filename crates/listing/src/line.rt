@@ -32,7 +32,7 @@ fn need_of(count: u16, months: Option<u16>) -> Option<u32>
 }
 
 // The line of a good entry, at the front of out.
-fn compose(e: Entry<'_>, out: &mut [u8]) -> usize
+fn compose(e: Entry<&[u8]>, out: &mut [u8]) -> usize
     requires { (Good (item_of e)) × (length out.old ≡ 70) }
     ensures { (take result out.new ≡ line_of (item_of e.entry)) × (result ≡ length (line_of (item_of e.entry))) × (result ≤ 70) }
 {
@@ -46,7 +46,7 @@ fn compose(e: Entry<'_>, out: &mut [u8]) -> usize
 }
 
 // Writes the line of an entry at a place, and answers where the next would begin.
-pub fn line(e: Entry<'_>, buf: &mut [u8], at: usize) -> Result<usize, Placed<SheetFault>>
+pub fn line(e: Entry<&[u8]>, buf: &mut [u8], at: usize) -> Result<usize, Placed<SheetFault>>
     ensures text { Lined buf.old buf.new at (item_of e.entry) result }
     ensures law { LineLaw }
 {

@@ -1,19 +1,25 @@
--- Blocks that are filled byte by byte.
-use Rattle.std.proofs.Common.{◌≡◌, ℕ, ◌+◌, ◌-◌, ◌<◌, ◌≤◌, ◌≢◌, List, ◌++◌, length, get_or, take, set, sym, ap, ◌∙◌, arith, length-append, length-take, get_or-set_other, get_or-set_same, below_more}
+-- Blocks that are filled up.
+use Rattle.std.proofs.Common.{◌≡◌, ℕ, ◌+◌, ◌-◌, ◌≤◌, List, ◌++◌, length, take, min, sym, ap, ap₂, ◌∙◌, inl, inr, arith, length-take-le, take_all, append-nil}
 use lib.Seq.{take-append-add}
-use Rattle.std.proofs.lemmas.List.{ext_get_or, get_or-take}
-
--- one more place of a block that takes the bytes of t
-pub filled_more : (m t : List ℕ) (k b : ℕ) → k < length m → ((j : ℕ) → j < k → get_or m j 0 ≡ get_or t j 0) → b ≡ get_or t k 0 → (j : ℕ) → j < k + 1 → get_or (set m k b) j 0 ≡ get_or t j 0
-filled_more m t k b lt inv e = below_more _ _ (λ j h. let ne : j ≢ k = omega arith in rw get_or-set_other (inv j h)) (rw get_or-set_same e)
-
--- a block that has taken them all is the first sixteen
-pub filled_all : (m p q : List ℕ) → length m ≡ 16 → length q ≡ 16 → ((j : ℕ) → j < 16 → get_or m j 0 ≡ get_or (p ++ q) j 0) → m ≡ take 16 (p ++ q)
-filled_all m p q l lq inv =
-    ext_get_or 0 m (take 16 (p ++ q)) (simp (length-take, length-append) (omega arith)) (λ i h. let k : i < 16 = omega arith in inv i k ∙ sym (get_or-take 16 (p ++ q) i 0 k))
+use Rattle.std.proofs.lemmas.Bool.{cases_lt}
+use Rattle.std.proofs.lemmas.List.{take-append-le, take_at}
+use Rattle.std.proofs.lemmas.Slice.{take-put_mid}
+use borrow.Rule.Slice.PartMut.{put_mid}
 
 -- sixteen bytes that begin with p
 pub completes : (p q : List ℕ) → length p ≤ 16 → take 16 (p ++ q) ≡ p ++ take (16 - length p) q
 completes p q l =
     let e : length p + (16 - length p) ≡ 16 = omega arith in
     ap (λ n. take n (p ++ q)) (sym e) ∙ take-append-add p q (16 - length p)
+
+-- a block whose first n bytes are x takes y behind them
+pub filled : (p q x y z : List ℕ) (n : ℕ) → length q ≡ 16 → n ≡ min (length p) 16 → x ≡ take n p → y ≡ take (16 - n) q → length (x ++ z) ≡ 16 → length (put_mid n (16 - n) (x ++ z) y) ≡ 16 → put_mid n (16 - n) (x ++ z) y ≡ take 16 (p ++ q)
+filled p q x y z n ql ne xe ye l l' =
+    let xl : length x ≡ n = ap length xe ∙ length-take-le n p (omega arith) in
+    let yl : length y ≡ 16 - n = ap length ye ∙ length-take-le (16 - n) q (omega arith) in
+    let m : put_mid n (16 - n) (x ++ z) y ≡ x ++ y =
+    sym (take_all 16 (put_mid n (16 - n) (x ++ z) y) (omega arith)) ∙ take-put_mid n (16 - n) (x ++ z) y 16 (omega arith) (omega arith) ∙ ap (λ a. a ++ y) (take_at x z n xl) in
+    m ∙ elim (cases_lt (length p) 16) [
+      | inl less ↦ (let e : n ≡ length p = omega arith in ap₂ ◌++◌ (xe ∙ take_all n p (omega arith)) (ye ∙ ap (λ k. take (16 - k) q) e) ∙ sym (completes p q (omega arith)))
+      | inr more ↦ (let e : n ≡ 16 = omega arith in ap₂ ◌++◌ (xe ∙ ap (λ k. take k p) e) (ye ∙ ap (λ k. take (16 - k) q) e) ∙ append-nil (take 16 p) ∙ sym (take-append-le 16 p q more))
+    ]

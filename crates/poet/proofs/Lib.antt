@@ -1,3 +1,4 @@
+pub mod Made
 pub mod Xors
 pub mod Completing
 pub mod Rows

@@ -8,28 +8,24 @@ ghost use Rattle.poet.specs.Bytes.{◌⊕◌};
 ghost use Rattle.poet.specs.Laws.{ComputingLaw, LawfulSome, OpeningLaw, OpeningPrefix, PiecesLaw, PrefixLaw, SealingPrefix};
 ghost use Rattle.std.specs.Prelude.{◌≡◌, ◌++◌, take};
 
+use std::array;
+
 // a ⊕ b
 pub fn xor(a: [u8; 16], b: [u8; 16]) -> [u8; 16]
     ensures { result ≡ a ⊕ b }
 {
-    let mut r = a;
-    for i in 0..16 {
-        r[i] ^= b[i];
-    }
-    r
+    array::from_fn(|i| a[i] ^ b[i])
 }
 
 // `front`, completed to a block with the first bytes of `fill`.
 pub fn complete(front: &[u8], fill: &[u8; 16]) -> [u8; 16]
     ensures { result ≡ take 16 (front.now ++ fill.now) }
 {
-    let n = front.len();
-    let mut b = [0; 16];
-    for k in 0..16 {
-        let byte = if k < n { front[k] } else { fill[k - n] };
-        b[k] = byte;
-    }
-    b
+    let n = front.len().min(16);
+    let mut block = [0; 16];
+    block[..n].copy_from_slice(&front[..n]);
+    block[n..].copy_from_slice(&fill[..16 - n]);
+    block
 }
 
 // What the definitions compute is the seal by its equations, and nothing else is.

@@ -2,9 +2,8 @@
 use Rattle.std.proofs.Common.{◌≡◌, ℕ, zero, suc, ◌+◌, ◌-◌, ◌<◌, ◌≤◌, List, [], ◌∷◌, ◌++◌, map, length, get_or, take, drop, Some, None, Ok, Option, Result, sym, refl, ap, ◌∙◌, subst, append_assoc, append-nil, arith}
 use Rattle.std.proofs.lemmas.List.{at_drop_all, at_drop_more, map_push}
 use Rattle.std.specs.Option.{option_map}
-use Rattle.sheet.specs.declared.entry.Entry.{Entry}
 use Rattle.sheet.specs.declared.reader.Reader.{Reader}
-use Rattle.sheet.specs.Entries.{Item, AllGood, sheet_of, item_of}
+use Rattle.sheet.specs.Entries.{Item, AllGood, sheet_of, Lent, item_of}
 use Rattle.fault.specs.declared.kinds.SheetFault.{SheetFault}
 use Rattle.fault.specs.declared.kinds.Placed.{Placed}
 use Rattle.sheet.specs.Calls.{Follows, last_of}
@@ -15,8 +14,8 @@ use Rattle.reading.specs.Replies.{Said, entry, replies, said, entries_in, ends_i
 use Rattle.reading.specs.Readers.{ReaderAt, Replied}
 
 -- a next call that answers an entry e, of which c is a copy
-pub entry_replied : (r r' : Reader) (o : Result (Option Entry) (Placed SheetFault)) (e : Entry) (c : Item) → o ≡ Ok (Some e) → c ≡ item_of e → ((es : List Item) → AllGood es → drop r.place r.sheet.now ≡ sheet_of es → Follows r.sheet.now r'.place es o) → r'.last ≡ last_of r.last o → r'.sheet.now ≡ r.sheet.now → Replied r r' ask.Next (entry c)
-entry_replied r r' o e c oe ce follows last_is same last es h = go es h (subst (λ (x : Result (Option Entry) (Placed SheetFault)). Follows r.sheet.now r'.place es x) oe (follows es h.good h.left))
+pub entry_replied : (r r' : Reader) (o : Result (Option Lent) (Placed SheetFault)) (e : Lent) (c : Item) → o ≡ Ok (Some e) → c ≡ item_of e → ((es : List Item) → AllGood es → drop r.place r.sheet.now ≡ sheet_of es → Follows r.sheet.now r'.place es o) → r'.last ≡ last_of r.last o → r'.sheet.now ≡ r.sheet.now → Replied r r' ask.Next (entry c)
+entry_replied r r' o e c oe ce follows last_is same last es h = go es h (subst (λ (x : Result (Option Lent) (Placed SheetFault)). Follows r.sheet.now r'.place es x) oe (follows es h.good h.left))
   where
     go : (es : List Item) → ReaderAt r last es → Follows r.sheet.now r'.place es (Ok (Some e)) → (last' : Option Item) × (es' : List Item) × ReaderAt r' last' es' × ((qs : List Ask) → replies last es (ask.Next ∷ qs) ≡ entry c ∷ replies last' es' qs)
     go [] h f = absurd f

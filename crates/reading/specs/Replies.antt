@@ -1,5 +1,5 @@
 -- What a reader answers to any list of calls, over the list of entries that is left to it.
-use Rattle.std.specs.Prelude.{◌≡◌, ℕ, suc, ◌-◌, List, [], ◌∷◌, length, take, ℤ, Some, None, vec_items, Option}
+use Rattle.std.specs.Prelude.{◌≡◌, ℕ, suc, ◌-◌, List, [], ◌∷◌, length, take, ℤ, Some, None, Ok, Err, vec_items, Option}
 use Rattle.std.specs.Option.{option_map}
 use Rattle.fault.specs.declared.kinds.SheetFault.{SheetFault}
 use Rattle.fault.specs.declared.kinds.Placed.{Placed}
@@ -7,12 +7,9 @@ use Rattle.sheet.specs.declared.entry.Field.{Field}
 use Rattle.sheet.specs.declared.entry.Field.TheVariants as part
 use Rattle.sheet.specs.declared.entry.Kind.{Kind}
 use Rattle.sheet.specs.declared.entry.Kind.TheVariants as kind
-use Rattle.sheet.specs.Entries.{Item}
+use Rattle.sheet.specs.Entries.{Item, item_by}
 use Rattle.reading.specs.declared.script.Ask.{Ask}
 use Rattle.reading.specs.declared.script.Ask.TheVariants as ask
-use Rattle.reading.specs.declared.script.Copied.{Copied}
-use Rattle.reading.specs.declared.script.Value.{Value}
-use Rattle.reading.specs.declared.script.Value.TheVariants as value
 use Rattle.reading.specs.declared.script.Reply.{Reply}
 use Rattle.reading.specs.declared.script.Reply.TheVariants as reply
 
@@ -81,28 +78,18 @@ pub record AllReplied (es : List Item) (qs : List Ask) (ss : List Said) : Type 0
   pub entries : entries_in ss ≡ take (nexts qs) es
   pub ends : ends_in ss ≡ nexts qs - length es
 
--- what the code's copies say
-abbrev pub copied_item : Copied → Item
-copied_item c = record { code = vec_items c.code; parent = option_map vec_items c.parent; count = c.count; landing = c.landing; months = c.months; drawing = option_map vec_items c.drawing }
+-- what the code's fields show, where t is what a text says
+abbrev pub shown_by : {T : Type 0} → (T → List ℕ) → Field T → Shown
+shown_by t (part.Code s) = code (t s)
+shown_by t (part.Parent s) = parent (t s)
+shown_by t (part.Count n) = count n
+shown_by t (part.Landing z) = landing z
+shown_by t (part.Months n) = months n
+shown_by t (part.Drawing s) = drawing (t s)
 
-abbrev pub shown_field : Field → Shown
-shown_field (part.Code s) = code s.now
-shown_field (part.Parent s) = parent s.now
-shown_field (part.Count n) = count n
-shown_field (part.Landing z) = landing z
-shown_field (part.Months n) = months n
-shown_field (part.Drawing s) = drawing s.now
-
-abbrev pub shown_value : Value → Shown
-shown_value (value.Code v) = code (vec_items v)
-shown_value (value.Parent v) = parent (vec_items v)
-shown_value (value.Count n) = count n
-shown_value (value.Landing z) = landing z
-shown_value (value.Months n) = months n
-shown_value (value.Drawing v) = drawing (vec_items v)
-
+-- what the code's replies say
 abbrev pub said : Reply → Said
-said (reply.Entry c) = entry (copied_item c)
-said reply.End = end
-said (reply.Refused f) = refused f
-said (reply.Field o) = field (option_map shown_value o)
+said (reply.Next (Ok (Some e))) = entry (item_by vec_items e)
+said (reply.Next (Ok None)) = end
+said (reply.Next (Err f)) = refused f
+said (reply.Field o) = field (option_map (shown_by vec_items) o)

@@ -1,12 +1,12 @@
 // The calls of a list, one after another, and copies of what they answered.
 ghost use Rattle.std.specs.Prelude.{◌≡◌, List, map, IfOk, None, vec_items, Option};
 ghost use Rattle.std.specs.Option.{option_map};
-ghost use Rattle.sheet.specs.Entries.{AllGood, Item, item_of, sheet_of};
-ghost use Rattle.reading.specs.Replies.{copied_item, replies as Replies, said, shown_field, shown_value};
+ghost use Rattle.sheet.specs.Entries.{AllGood, Item, item_by, item_of, sheet_of};
+ghost use Rattle.reading.specs.Replies.{replies as Replies, said, shown_by};
 ghost use Rattle.reading.specs.Readers.{Replied};
 ghost use Rattle.reading.specs.declared.script.Ask.TheVariants.{Next};
 
-use crate::script::{Ask, Copied, Reply, Value};
+use crate::script::{Ask, Reply};
 use sheet::entry::{Entry, Field, Kind};
 use sheet::reader::Reader;
 use std::alloc::{AllocError, Global};
@@ -15,49 +15,34 @@ fn copy_text(heap: Global, s: Option<&[u8]>) -> Result<Option<Vec<u8>>, AllocErr
     ensures { IfOk result (λ v. option_map vec_items v ≡ option_map (λ x. x.now) s.entry) }
 {
     match s {
-        Some(s) => {
-            let copy = Vec::from_slice(heap, s)?;
-            Ok(Some(copy))
-        }
+        Some(s) => Ok(Some(Vec::from_slice(heap, s)?)),
         None => Ok(None),
     }
 }
 
-fn copy_entry(heap: Global, e: Entry<'_>) -> Result<Copied, AllocError>
-    ensures { IfOk result (λ c. copied_item c ≡ item_of e.entry) }
+fn copy_entry(heap: Global, e: Entry<&[u8]>) -> Result<Entry<Vec<u8>>, AllocError>
+    ensures { IfOk result (λ c. item_by vec_items c ≡ item_of e.entry) }
 {
-    let code = Vec::from_slice(heap, e.code)?;
-    let parent = copy_text(heap, e.parent)?;
-    let drawing = copy_text(heap, e.drawing)?;
-    Ok(Copied {
-        code,
-        parent,
+    Ok(Entry {
+        code: Vec::from_slice(heap, e.code)?,
+        parent: copy_text(heap, e.parent)?,
         count: e.count,
         landing: e.landing,
         months: e.months,
-        drawing,
+        drawing: copy_text(heap, e.drawing)?,
     })
 }
 
-fn copy_field(heap: Global, f: Field<'_>) -> Result<Value, AllocError>
-    ensures { IfOk result (λ v. shown_value v ≡ shown_field f.entry) }
+fn copy_field(heap: Global, f: Field<&[u8]>) -> Result<Field<Vec<u8>>, AllocError>
+    ensures { IfOk result (λ v. shown_by vec_items v ≡ shown_by (λ s. s.now) f.entry) }
 {
     match f {
-        Field::Code(s) => {
-            let copy = Vec::from_slice(heap, s)?;
-            Ok(Value::Code(copy))
-        }
-        Field::Parent(s) => {
-            let copy = Vec::from_slice(heap, s)?;
-            Ok(Value::Parent(copy))
-        }
-        Field::Count(n) => Ok(Value::Count(n)),
-        Field::Landing(z) => Ok(Value::Landing(z)),
-        Field::Months(n) => Ok(Value::Months(n)),
-        Field::Drawing(s) => {
-            let copy = Vec::from_slice(heap, s)?;
-            Ok(Value::Drawing(copy))
-        }
+        Field::Code(s) => Ok(Field::Code(Vec::from_slice(heap, s)?)),
+        Field::Parent(s) => Ok(Field::Parent(Vec::from_slice(heap, s)?)),
+        Field::Count(n) => Ok(Field::Count(n)),
+        Field::Landing(z) => Ok(Field::Landing(z)),
+        Field::Months(n) => Ok(Field::Months(n)),
+        Field::Drawing(s) => Ok(Field::Drawing(Vec::from_slice(heap, s)?)),
     }
 }
 
@@ -75,12 +60,9 @@ fn next_reply(heap: Global, reader: &mut Reader<'_>) -> Result<Reply, AllocError
     ensures { IfOk result (λ x. Replied reader.old reader.new Next (said x)) }
 {
     match reader.next() {
-        Ok(Some(e)) => {
-            let copy = copy_entry(heap, e)?;
-            Ok(Reply::Entry(copy))
-        }
-        Ok(None) => Ok(Reply::End),
-        Err(fault) => Ok(Reply::Refused(fault)),
+        Ok(Some(e)) => Ok(Reply::Next(Ok(Some(copy_entry(heap, e)?)))),
+        Ok(None) => Ok(Reply::Next(Ok(None))),
+        Err(fault) => Ok(Reply::Next(Err(fault))),
     }
 }
 
@@ -88,10 +70,7 @@ fn field_reply(heap: Global, reader: &Reader<'_>, kind: Kind) -> Result<Reply, A
     ensures { IfOk result (λ x. Replied reader.now reader.now (Ask.Field kind) (said x)) }
 {
     match reader.field(kind) {
-        Some(f) => {
-            let copy = copy_field(heap, f)?;
-            Ok(Reply::Field(Some(copy)))
-        }
+        Some(f) => Ok(Reply::Field(Some(copy_field(heap, f)?))),
         None => Ok(Reply::Field(None)),
     }
 }

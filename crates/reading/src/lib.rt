@@ -5,6 +5,5 @@
 #![tactic(auto)]
 
 mod calls;
-pub mod halt;
 pub mod play;
 pub mod script;

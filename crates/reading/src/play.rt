@@ -1,28 +1,26 @@
 // Opens a delivered sheet and plays a list of calls on a new reader over it.
-ghost use Rattle.delivery.specs.Told.{suite_of};
-ghost use Rattle.reading.specs.Plays.{PlayedUnder};
+ghost use Rattle.reading.specs.Plays.{Played};
+ghost use Rattle.wire.specs.Wire.{parts_of};
 
 use crate::calls::calls;
-use crate::halt::Halt;
 use crate::script::{Ask, Reply};
 use delivery::sheets::open_sheet;
+use fault::halt::Halt;
+use fault::kinds::SheetFault;
 use std::alloc::Global;
+use wire::parse::Delivery;
 
 // Opens a sheet into the front of `out`, as `open_sheet` does, and answers what each of the calls answered.
 pub fn play(
     heap: Global,
-    suite: u8,
-    key: &[u8],
-    header: &[u8],
-    ciphertext: &[u8],
-    tag: &[u8],
+    d: Delivery<'_>,
     out: &mut [u8],
     asks: &[Ask],
-) -> Result<Vec<Reply>, Halt>
-    ensures { PlayedUnder (suite_of suite) suite key.now header.now ciphertext.now tag.now out.old out.new asks.now result }
+) -> Result<Vec<Reply>, Halt<SheetFault>>
+    ensures { Played (parts_of d.entry) out.old out.new asks.now result }
 {
-    let len = ciphertext.len();
-    let _ = open_sheet(suite, key, header, ciphertext, tag, out)?;
+    let len = d.ciphertext.len();
+    let _ = open_sheet(d, out)?;
     let replies = calls(heap, &out[0..len], asks)?;
     Ok(replies)
 }

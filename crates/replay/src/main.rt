@@ -4,26 +4,29 @@
 mod report;
 mod text;
 
-use fault::kinds::{KeyFault, Placed, SessionFault};
+use fault::kinds::{KeyFault, Placed};
 use report::report;
 use session::keys::KeyPlace;
 use session::play::play;
 use session::script::{Course, Stretch};
 use std::alloc::{AllocError, Global};
 use suite::Suite;
+use suites::listed::Listed;
 use suites::mirror::Mirror;
 use suites::shaft::Shaft;
-use text::{Piece, Start, Written};
+use text::{Body, Fault, Piece, Written};
 
 fn main(rt: HostRuntime) -> anyhow::Result<()> {
     let mut written = Written::new(rt.alloc());
-    let mut number = 0u64;
-    for line in rt.lines(rt.alloc()) {
-        number = number.saturating_add(1);
-        let line = line?;
-        if !written.read(rt.alloc(), line.as_str())? {
-            println!(rt; "line {number}: not a call that can stand here")?;
-            return Ok(());
+    for (before, line) in rt.lines(rt.alloc()).enumerate() {
+        match written.read(rt.alloc(), line?.as_str()) {
+            Ok(()) => {}
+            Err(Fault::NoCall) => {
+                let number = before.saturating_add(1);
+                println!(rt; "line {number}: not a call that can stand here")?;
+                return Ok(());
+            }
+            Err(Fault::Memory(e)) => return Err(e.into()),
         }
     }
     run(&rt, &written)
@@ -31,72 +34,66 @@ fn main(rt: HostRuntime) -> anyhow::Result<()> {
 
 // Plays it under the suite with its number, if that is listed.
 fn run(rt: &HostRuntime, written: &Written) -> anyhow::Result<()> {
-    match written.suite {
-        1 => under::<Shaft>(rt, written),
-        4 => under::<Mirror>(rt, written),
-        _ => refuse(
-            rt,
-            Placed {
-                fault: KeyFault::Suite,
-                place: written.suite as usize,
-            },
-        ),
+    match Listed::try_from(written.suite) {
+        Ok(Listed::Shaft) => under::<Shaft>(rt, written),
+        Ok(Listed::Mirror) => under::<Mirror>(rt, written),
+        Err(refused) => refuse(rt, refused),
     }
 }
 
 // Fills the key place and plays the session.
 fn under<S: Suite>(rt: &HostRuntime, written: &Written) -> anyhow::Result<()> {
     let mut place = KeyPlace::new();
-    if let Err(refused) = place.fill(written.key.as_slice()) {
+    if let Err(refused) = place.fill(&written.key) {
         return refuse(rt, refused);
     }
-    let headers = stretches(rt.alloc(), written.headers.as_slice())?;
-    let bodies = stretches(rt.alloc(), written.bodies.as_slice())?;
-    let played = play::<S>(
-        rt.alloc(),
-        &place,
-        headers.as_slice(),
-        course(written, bodies.as_slice()),
-    )?;
+    let heap = rt.alloc();
+    let headers = header_stretches(heap, &written.headers)?;
+    let bodies = body_stretches(heap, pieces(&written.body))?;
+    let played = play::<S>(heap, &place, &headers, course(&written.body, &bodies))?;
     report(rt, played)
 }
 
 // Prints a refusal of the key layer; no call was made then.
 fn refuse(rt: &HostRuntime, refused: Placed<KeyFault>) -> anyhow::Result<()> {
-    let shown: Placed<SessionFault> = refused.into();
-    println!(rt; "{shown}")?;
+    println!(rt; "{refused}")?;
     Ok(())
 }
 
-fn course<'a>(written: &'a Written, bodies: &'a [Stretch<'a>]) -> Course<'a> {
-    match written.start {
-        Start::Heading => Course::Heading,
-        Start::Seal => Course::Seal {
+fn pieces(body: &Body) -> &[Piece] {
+    match body {
+        Body::None => &[],
+        Body::Seal { pieces, .. } | Body::Open { pieces, .. } => pieces,
+    }
+}
+
+fn course<'a>(body: &'a Body, bodies: &'a [Stretch<'a>]) -> Course<'a> {
+    match body {
+        Body::None => Course::Heading,
+        Body::Seal { finish, .. } => Course::Seal {
             bodies,
-            finish: written.finish,
+            finish: *finish,
         },
-        Start::Open => Course::Open {
+        Body::Open { tag, .. } => Course::Open {
             bodies,
-            tag: tag(written),
+            tag: tag.as_deref(),
         },
     }
 }
 
-fn tag(written: &Written) -> Option<&[u8]> {
-    if written.finish {
-        Some(written.tag.as_slice())
-    } else {
-        None
-    }
+fn header_stretches(heap: Global, headers: &[Vec<u8>]) -> Result<Vec<Stretch<'_>>, AllocError> {
+    headers
+        .iter()
+        .map(|bytes| Stretch { bytes, room: 0 })
+        .collect(heap)
 }
 
-fn stretches<'a>(heap: Global, pieces: &'a [Piece]) -> Result<Vec<Stretch<'a>>, AllocError> {
-    let mut all = Vec::new(heap);
-    for piece in pieces {
-        all.push(Stretch {
-            bytes: piece.bytes.as_slice(),
+fn body_stretches(heap: Global, pieces: &[Piece]) -> Result<Vec<Stretch<'_>>, AllocError> {
+    pieces
+        .iter()
+        .map(|piece| Stretch {
+            bytes: &piece.bytes,
             room: piece.room,
-        })?;
-    }
-    Ok(all)
+        })
+        .collect(heap)
 }

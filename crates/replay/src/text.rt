@@ -9,31 +9,50 @@
 //     finish BYTES      the end of an opening, with the tag
 //
 // A call stands only where a caller's program could make it; suite and key stand before every call.
-use std::alloc::{AllocError, Global};
+use std::alloc::{AllocError, AllocFailed, Global};
 
-#[derive(Clone, Copy)]
-pub enum Start {
-    Heading,
-    Seal,
-    Open,
+// Why a line was not taken.
+#[derive(Drop)]
+pub enum Fault {
+    // it is no call, or one that cannot stand here
+    NoCall,
+    // memory was wanting
+    Memory(AllocError),
 }
 
-// The bytes of a header or body call, and its room.
+impl<T: Drop> From<AllocFailed<T>> for Fault {
+    fn from(e: AllocFailed<T>) -> Fault {
+        Fault::Memory(e.into())
+    }
+}
+
+// The bytes of a body call, and its room.
 #[derive(Drop)]
 pub struct Piece {
     pub bytes: Vec<u8>,
     pub room: usize,
 }
 
+// What follows the header calls.
+#[derive(Drop)]
+pub enum Body {
+    None,
+    Seal {
+        pieces: Vec<Piece>,
+        finish: bool,
+    },
+    Open {
+        pieces: Vec<Piece>,
+        tag: Option<Vec<u8>>,
+    },
+}
+
 #[derive(Drop)]
 pub struct Written {
     pub suite: u8,
     pub key: Vec<u8>,
-    pub headers: Vec<Piece>,
-    pub start: Start,
-    pub bodies: Vec<Piece>,
-    pub finish: bool,
-    pub tag: Vec<u8>,
+    pub headers: Vec<Vec<u8>>,
+    pub body: Body,
 }
 
 impl Written {
@@ -42,141 +61,121 @@ impl Written {
             suite: 0,
             key: Vec::new(heap),
             headers: Vec::new(heap),
-            start: Start::Heading,
-            bodies: Vec::new(heap),
-            finish: false,
-            tag: Vec::new(heap),
+            body: Body::None,
         }
     }
 
-    // Takes a line; false where it is no call, or one that cannot stand here.
-    pub(crate) fn read(&mut self, heap: Global, line: &str) -> Result<bool, AllocError> {
-        let (word, rest) = match line.split_once(' ') {
-            Some((word, rest)) => (word, rest),
-            None => (line, ""),
-        };
+    // Takes a line.
+    pub(crate) fn read(&mut self, heap: Global, line: &str) -> Result<(), Fault> {
+        let (word, rest) = line.split_once(' ').unwrap_or((line, ""));
         match word {
-            "suite" => Ok(self.suite(rest)),
+            "suite" => self.suite(rest),
             "key" => self.key(heap, rest),
             "header" => self.header(heap, rest),
-            "seal" => Ok(self.begin(Start::Seal)),
-            "open" => Ok(self.begin(Start::Open)),
+            "seal" => self.begin(Body::Seal {
+                pieces: Vec::new(heap),
+                finish: false,
+            }),
+            "open" => self.begin(Body::Open {
+                pieces: Vec::new(heap),
+                tag: None,
+            }),
             "body" => self.body(heap, rest),
-            "finish" => self.end(heap, rest),
-            _ => Ok(false),
+            "finish" => self.finish(heap, rest),
+            _ => Err(Fault::NoCall),
         }
     }
 
     // Whether no call was read yet.
     fn is_new(&self) -> bool {
-        self.headers.len() == 0 && matches!(self.start, Start::Heading)
+        self.headers.is_empty() && matches!(self.body, Body::None)
     }
 
-    fn suite(&mut self, rest: &str) -> bool {
-        if !self.is_new() {
-            return false;
-        }
+    fn suite(&mut self, rest: &str) -> Result<(), Fault> {
         match rest.parse::<u8>() {
-            Ok(n) => {
-                self.suite = n;
-                true
+            Ok(number) if self.is_new() => {
+                self.suite = number;
+                Ok(())
             }
-            Err(_) => false,
+            _ => Err(Fault::NoCall),
         }
     }
 
-    fn key(&mut self, heap: Global, rest: &str) -> Result<bool, AllocError> {
+    fn key(&mut self, heap: Global, rest: &str) -> Result<(), Fault> {
+        let key = bytes(heap, rest)?;
         if !self.is_new() {
-            return Ok(false);
+            return Err(Fault::NoCall);
         }
-        match bytes(heap, rest.as_bytes())? {
-            Some(key) => {
-                self.key = key;
-                Ok(true)
-            }
-            None => Ok(false),
-        }
+        self.key = key;
+        Ok(())
     }
 
-    fn header(&mut self, heap: Global, rest: &str) -> Result<bool, AllocError> {
-        if !matches!(self.start, Start::Heading) {
-            return Ok(false);
+    fn header(&mut self, heap: Global, rest: &str) -> Result<(), Fault> {
+        let header = bytes(heap, rest)?;
+        if !matches!(self.body, Body::None) {
+            return Err(Fault::NoCall);
         }
-        match bytes(heap, rest.as_bytes())? {
-            Some(bytes) => {
-                self.headers.push(Piece { bytes, room: 0 })?;
-                Ok(true)
-            }
-            None => Ok(false),
-        }
+        self.headers.push(header)?;
+        Ok(())
     }
 
-    fn begin(&mut self, start: Start) -> bool {
-        if !matches!(self.start, Start::Heading) {
-            return false;
+    fn begin(&mut self, body: Body) -> Result<(), Fault> {
+        if !matches!(self.body, Body::None) {
+            return Err(Fault::NoCall);
         }
-        self.start = start;
-        true
+        self.body = body;
+        Ok(())
     }
 
-    fn body(&mut self, heap: Global, rest: &str) -> Result<bool, AllocError> {
-        if self.finish || matches!(self.start, Start::Heading) {
-            return Ok(false);
-        }
-        let (room, hex) = match rest.split_once(' ') {
-            Some((room, hex)) => (room, hex),
-            None => (rest, ""),
-        };
+    fn body(&mut self, heap: Global, rest: &str) -> Result<(), Fault> {
+        let (room, text) = rest.split_once(' ').unwrap_or((rest, ""));
         let Ok(room) = room.parse::<u32>() else {
-            return Ok(false);
+            return Err(Fault::NoCall);
         };
-        match bytes(heap, hex.as_bytes())? {
-            Some(bytes) => {
-                self.bodies.push(Piece {
-                    bytes,
-                    room: room as usize,
-                })?;
-                Ok(true)
-            }
-            None => Ok(false),
+        let piece = Piece {
+            bytes: bytes(heap, text)?,
+            room: room as usize,
+        };
+        match &mut self.body {
+            Body::Seal {
+                pieces,
+                finish: false,
+            } => pieces.push(piece)?,
+            Body::Open { pieces, tag: None } => pieces.push(piece)?,
+            _ => return Err(Fault::NoCall),
         }
+        Ok(())
     }
 
-    fn end(&mut self, heap: Global, rest: &str) -> Result<bool, AllocError> {
-        if self.finish || matches!(self.start, Start::Heading) {
-            return Ok(false);
+    fn finish(&mut self, heap: Global, rest: &str) -> Result<(), Fault> {
+        let bytes = bytes(heap, rest)?;
+        match &mut self.body {
+            Body::Seal { finish, .. } if !*finish && bytes.is_empty() => *finish = true,
+            Body::Open { tag, .. } if tag.is_none() => *tag = Some(bytes),
+            _ => return Err(Fault::NoCall),
         }
-        match bytes(heap, rest.as_bytes())? {
-            Some(tag) => {
-                self.finish = tag.len() == 0 || matches!(self.start, Start::Open);
-                self.tag = tag;
-                Ok(self.finish)
-            }
-            None => Ok(false),
-        }
+        Ok(())
     }
 }
 
 // Hexadecimal digits in pairs.
-fn bytes(heap: Global, text: &[u8]) -> Result<Option<Vec<u8>>, AllocError> {
+fn bytes(heap: Global, text: &str) -> Result<Vec<u8>, Fault> {
+    let (pairs, rest) = text.as_bytes().as_chunks::<2>();
+    if !rest.is_empty() {
+        return Err(Fault::NoCall);
+    }
     let mut all = Vec::new(heap);
-    if text.len() % 2 == 1 {
-        return Ok(None);
+    for [high, low] in pairs {
+        all.push(digit(*high)? << 4 | digit(*low)?)?;
     }
-    for i in 0..text.len() / 2 {
-        match (digit(text[2 * i]), digit(text[2 * i + 1])) {
-            (Some(high), Some(low)) => all.push(high << 4 | low)?,
-            _ => return Ok(None),
-        }
-    }
-    Ok(Some(all))
+    Ok(all)
 }
 
-fn digit(c: u8) -> Option<u8> {
+fn digit(c: u8) -> Result<u8, Fault> {
     match c {
-        b'0'..=b'9' => Some(c - b'0'),
-        b'a'..=b'f' => Some(c - b'a' + 10),
-        b'A'..=b'F' => Some(c - b'A' + 10),
-        _ => None,
+        b'0'..=b'9' => Ok(c - b'0'),
+        b'a'..=b'f' => Ok(c - b'a' + 10),
+        b'A'..=b'F' => Ok(c - b'A' + 10),
+        _ => Err(Fault::NoCall),
     }
 }

@@ -23,8 +23,8 @@ use Rattle.delivery.specs.Sheets.{SheetSeals, SheetBy, SheetUnder, open_checks}
 use Rattle.delivery.proofs.Opening.{counted}
 use Rattle.wire.specs.declared.parse.Delivery.{Delivery}
 use Rattle.wire.specs.Wire.{Parts, Limits, wire, parts_of, Parsed}
-use Rattle.report.specs.declared.halt.Halt.{Halt}
-use Rattle.report.specs.declared.halt.Halt.TheVariants.{Refused, Memory}
+use Rattle.fault.specs.declared.halt.Halt.{Halt}
+use Rattle.fault.specs.declared.halt.Halt.TheVariants.{Refused, Memory}
 use Rattle.report.specs.Lists.{list_of, Made, SheetListed}
 use Rattle.report.specs.Report.{Delivers, Listed, Opened, raised}
 
@@ -121,21 +121,21 @@ module _ (input : List ℕ) (b : Bytes input) (d : Delivery) (parsed : Parsed in
       )
 
 -- the answers
-listed_by : (input : List ℕ) (es : List Item) → Delivers input es → ((fs : List Item) → Delivers input fs → fs ≡ es) → (r : Result (Vec ℕ Global) Halt) → Made (λ v. vec_items v ≡ list_of es) r → Listed input r
+listed_by : (input : List ℕ) (es : List Item) → Delivers input es → ((fs : List Item) → Delivers input fs → fs ≡ es) → (r : Result (Vec ℕ Global) (Halt ConsoleFault)) → Made (λ v. vec_items v ≡ list_of es) r → Listed input r
 listed_by input es D only (Ok v) m = (es, D, only, m)
 listed_by input es D only (Err (Refused f)) m = absurd m
 listed_by input es D only (Err (Memory e)) m = tt
 
-pub listed : (input : List ℕ) → Bytes input → (d : Delivery) → Parsed input (Ok d) → (o o' s : List ℕ) (k : ℕ) (r : Result (Vec ℕ Global) Halt) → length o ≡ length (parts_of d).ciphertext → length o' ≡ length o → s ≡ o' → SheetUnder (suite_of d.suite) d.suite (parts_of d).key (parts_of d).header (parts_of d).ciphertext (parts_of d).tag o o' (Ok k) → SheetListed s r → Listed input r
+pub listed : (input : List ℕ) → Bytes input → (d : Delivery) → Parsed input (Ok d) → (o o' s : List ℕ) (k : ℕ) (r : Result (Vec ℕ Global) (Halt ConsoleFault)) → length o ≡ length (parts_of d).ciphertext → length o' ≡ length o → s ≡ o' → SheetUnder (suite_of d.suite) d.suite (parts_of d).key (parts_of d).header (parts_of d).ciphertext (parts_of d).tag o o' (Ok k) → SheetListed s r → Listed input r
 listed input b d parsed o o' s k r lo lo' se under l =
     let f = found input b d parsed o o' k under in
     let whole : s ≡ sheet_of f.0 = se ∙ sym (take_all (length (parts_of d).ciphertext) o' (omega arith)) ∙ f.1.front in
     listed_by input f.0 f.1.delivers f.1.only r (l f.0 f.1.good whole)
 
-pub refused : (input : List ℕ) → Bytes input → (d : Delivery) → Parsed input (Ok d) → (o o' : List ℕ) (f : Placed ConsoleFault) (r : Result (Vec ℕ Global) Halt) → length o ≡ length (parts_of d).ciphertext → Opened (parts_of d) o o' (Err f) → IsErrAnd r (λ h. h ≡ Refused f) → Listed input r
+pub refused : (input : List ℕ) → Bytes input → (d : Delivery) → Parsed input (Ok d) → (o o' : List ℕ) (f : Placed ConsoleFault) (r : Result (Vec ℕ Global) (Halt ConsoleFault)) → length o ≡ length (parts_of d).ciphertext → Opened (parts_of d) o o' (Err f) → IsErrAnd r (λ h. h ≡ Refused f) → Listed input r
 refused input b d parsed o o' f (Ok v) lo s h = absurd h
 refused input b d parsed o o' f (Err x) lo s h =
-    subst (λ (y : Halt). Listed input (Err y)) (sym h) (none input b d parsed o o' lo s.0 s.2, inr (parts_of d, parsed.0, parsed.1, o, o', lo, s))
+    subst (λ (y : Halt ConsoleFault). Listed input (Err y)) (sym h) (none input b d parsed o o' lo s.0 s.2, inr (parts_of d, parsed.0, parsed.1, o, o', lo, s))
 
 -- a fault of the sheet that `?` hands on
 same_fault : (e : Placed SheetFault) (x : Placed ConsoleFault) → x.fault ≡ (raised e).fault → x.place ≡ e.place → x ≡ raised e

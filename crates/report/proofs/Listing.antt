@@ -3,9 +3,8 @@ use Rattle.std.proofs.Common.{◌≡◌, ℕ, List, [], ◌∷◌, ◌++◌, len
 use Rattle.std.proofs.lemmas.List.{take_at}
 use Rattle.fault.specs.declared.kinds.SheetFault.{SheetFault}
 use Rattle.fault.specs.declared.kinds.Placed.{Placed}
-use Rattle.sheet.specs.declared.entry.Entry.{Entry}
 use Rattle.sheet.specs.declared.reader.Reader.{Reader}
-use Rattle.sheet.specs.Entries.{Item, Good, AllGood, sheet_of, item_of}
+use Rattle.sheet.specs.Entries.{Item, Good, AllGood, sheet_of, Lent, item_of}
 use Rattle.sheet.specs.Calls.{Follows}
 use Rattle.listing.specs.Lines.{line_of, Lined, LineLaw}
 use Rattle.report.specs.Lists.{list_of}
@@ -26,8 +25,8 @@ Sofar r text es = (rest : List Item) × AllGood rest × (drop r.place r.sheet.no
 pub none_yet : (r : Reader) (s text : List ℕ) (es : List Item) → r.sheet.now ≡ s → r.place ≡ 0 → text ≡ [] → AllGood es → s ≡ sheet_of es → Sofar r text es
 none_yet r s text es se pe te g e = (es, g, ap (λ n. drop n r.sheet.now) pe ∙ se ∙ e, ap (λ (x : List ℕ). x ++ list_of es) te)
 
-pub one_more : (r r' : Reader) (o : Result (Option Entry) (Placed SheetFault)) (e : Entry) (t t' : List ℕ) (es : List Item) → o ≡ Ok (Some e) → ((es : List Item) → AllGood es → drop r.place r.sheet.now ≡ sheet_of es → Follows r.sheet.now r'.place es o) → r'.sheet.now ≡ r.sheet.now → (Good (item_of e) → t' ≡ t ++ line_of (item_of e)) → Sofar r t es → Sofar r' t' es
-one_more r r' o e t t' es oe follows same added (rest, g, left, so) = go rest g so (subst (λ (x : Result (Option Entry) (Placed SheetFault)). Follows r.sheet.now r'.place rest x) oe (follows rest g left))
+pub one_more : (r r' : Reader) (o : Result (Option Lent) (Placed SheetFault)) (e : Lent) (t t' : List ℕ) (es : List Item) → o ≡ Ok (Some e) → ((es : List Item) → AllGood es → drop r.place r.sheet.now ≡ sheet_of es → Follows r.sheet.now r'.place es o) → r'.sheet.now ≡ r.sheet.now → (Good (item_of e) → t' ≡ t ++ line_of (item_of e)) → Sofar r t es → Sofar r' t' es
+one_more r r' o e t t' es oe follows same added (rest, g, left, so) = go rest g so (subst (λ (x : Result (Option Lent) (Placed SheetFault)). Follows r.sheet.now r'.place rest x) oe (follows rest g left))
   where
     go : (rest : List Item) → AllGood rest → t ++ list_of rest ≡ list_of es → Follows r.sheet.now r'.place rest (Ok (Some e)) → Sofar r' t' es
     go [] g so f = absurd f

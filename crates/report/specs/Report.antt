@@ -9,10 +9,10 @@ use Rattle.fault.specs.Numbers.{console_number}
 use Rattle.poet.specs.Functions.{Functions}
 use Rattle.sheet.specs.Entries.{Item}
 use Rattle.delivery.specs.Told.{suite_of}
-use Rattle.delivery.specs.Sheets.{SheetSeals, SheetUnder}
+use Rattle.delivery.specs.Sheets.{SheetSeals, SheetOf}
 use Rattle.wire.specs.Wire.{Parts, Limits, wire, malformed}
-use Rattle.report.specs.declared.halt.Halt.{Halt}
-use Rattle.report.specs.declared.halt.Halt.TheVariants.{Refused, Memory}
+use Rattle.fault.specs.declared.halt.Halt.{Halt}
+use Rattle.fault.specs.declared.halt.Halt.TheVariants.{Refused, Memory}
 use Rattle.report.specs.Lists.{list_of}
 
 -- The input is a delivery within its limits, of a listed suite, and the list es of one or more good entries, written and sealed under its key
@@ -31,8 +31,8 @@ raised e = record { fault = Sheet e.fault; place = e.place }
 
 -- opening the sheet in the parts p of a delivery into the buffer o, which becomes o'
 abbrev pub Opened : Parts → (o o' : List ℕ) → Result ℕ (Placed ConsoleFault) → Type 0
-Opened p o o' (Ok n) = SheetUnder (suite_of p.suite) p.suite p.key p.header p.ciphertext p.tag o o' (Ok n)
-Opened p o o' (Err f) = (e : Placed SheetFault) × (f ≡ raised e) × SheetUnder (suite_of p.suite) p.suite p.key p.header p.ciphertext p.tag o o' (Err e)
+Opened p o o' (Ok n) = SheetOf p o o' (Ok n)
+Opened p o o' (Err f) = (e : Placed SheetFault) × (f ≡ raised e) × SheetOf p o o' (Err e)
 
 -- Why an input is refused: it is no delivery, or its sheet is refused when it is opened into a buffer o that is as long as the ciphertext.
 abbrev pub RefusedAs : List ℕ → Placed ConsoleFault → Type 0
@@ -41,7 +41,7 @@ RefusedAs input f =
     ⊎ ((p : Parts) × Limits p × (wire p ≡ input) × (o o' : List ℕ) × (length o ≡ length p.ciphertext) × Opened p o o' (Err f))
 
 -- Listed exactly if the input delivers some list: then that is the only one, and its lines are answered. Else it is refused.
-abbrev pub Listed : List ℕ → Result (Vec ℕ Global) Halt → Type 0
+abbrev pub Listed : List ℕ → Result (Vec ℕ Global) (Halt ConsoleFault) → Type 0
 Listed input (Ok v) = (es : List Item) × Delivers input es × ((fs : List Item) → Delivers input fs → fs ≡ es) × (vec_items v ≡ list_of es)
 Listed input (Err (Refused f)) = ((es : List Item) → Delivers input es → ⊥) × RefusedAs input f
 Listed input (Err (Memory e)) = Unit {0}

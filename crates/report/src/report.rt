@@ -3,10 +3,11 @@ ghost use Rattle.std.specs.Prelude.{◌≡◌, IfOk, string_bytes};
 ghost use Rattle.wire.specs.Wire.{parts_of};
 ghost use Rattle.report.specs.Report.{Listed, Opened, Printed, refusal_line};
 
-use crate::halt::Halt;
 use crate::lists::lines;
 use delivery::sheets::open_sheet;
+use fault::halt::Halt;
 use fault::kinds::{ConsoleFault, Placed};
+use fault::shown::Fault;
 use std::alloc::{AllocError, Global};
 use wire::parse::{Delivery, parse};
 
@@ -14,12 +15,12 @@ use wire::parse::{Delivery, parse};
 fn open_delivery(d: Delivery<'_>, out: &mut [u8]) -> Result<usize, Placed<ConsoleFault>>
     ensures { Opened (parts_of d.entry) out.old out.new result }
 {
-    let count = open_sheet(d.suite, d.key, d.header, d.ciphertext, d.tag, out)?;
+    let count = open_sheet(d, out)?;
     Ok(count)
 }
 
 // Parses a delivery, opens its sheet and lists it: a line for each entry.
-pub fn list(heap: Global, input: &[u8]) -> Result<Vec<u8>, Halt>
+pub fn list(heap: Global, input: &[u8]) -> Result<Vec<u8>, Halt<ConsoleFault>>
     ensures { Listed input.now result }
 {
     let d = parse(input)?;

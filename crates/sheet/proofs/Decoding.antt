@@ -1,12 +1,12 @@
 -- Entries and sheets: an entry is read exactly where its bytes stand, and a sheet has one list of entries.
-use Rattle.std.proofs.Common.{◌≡◌, ℕ, ◌+◌, ◌<◌, ◌≤◌, Bool, List, [], ◌∷◌, ◌++◌, length, drop, is_some, Some, None, Ok, Option, sym, refl, ap, ◌∙◌, subst, ⊎_elim, append_assoc, append-nil, arith, length-append, length-drop}
-use Rattle.std.proofs.str.Laws.{order}
+use Rattle.std.proofs.Common.{◌≡◌, ℕ, ◌+◌, ◌<◌, ◌≤◌, Bool, List, [], ◌∷◌, ◌++◌, length, drop, is_some, Some, None, Ok, Option, sym, refl, ap, ◌∙◌, subst, append_assoc, append-nil, arith, length-append, length-drop}
 use Rattle.std.proofs.lemmas.List.{drop_all, length_push}
 use Rattle.std.proofs.lemmas.List.Elements.{All-drop}
-use Rattle.sheet.specs.declared.entry.Entry.{Entry}
 use Rattle.fault.specs.declared.kinds.SheetFault.{SheetFault}
+use Rattle.fault.specs.declared.kinds.SheetFault.TheVariants.{Cut}
+use Rattle.fault.specs.declared.kinds.Placed.{Placed}
 use Rattle.sheet.specs.Table.{stands}
-use Rattle.sheet.specs.Entries.{Item, Good, Held, two, one, text, counted, held, item_map, map_of, bytes, sheet_of, AllGood, item_of}
+use Rattle.sheet.specs.Entries.{Item, Good, Held, two, one, text, counted, held, item_map, map_of, bytes, sheet_of, AllGood, Lent, item_of}
 use Rattle.sheet.specs.Reading.{Read, got, fault, next, read_code, read_number, read_landing, read_drawing, read_held, read_map, item, read_fields, read_item}
 use Rattle.sheet.specs.Calls.{Follows, Holds, Broken}
 use Rattle.sheet.specs.Laws.{ReadingLaw, UniqueLaw}
@@ -117,25 +117,24 @@ pub ends : (s : List ℕ) (p : ℕ) (es : List Item) → p ≡ length s → drop
 ends s p [] h q = q
 ends s p (e ∷ es) h q = none_some _ _ (sym (drop_all p s (omega arith)) ∙ q)
 
-pub goes_on : (s : List ℕ) (p q : ℕ) (x : Entry) (es : List Item) → p < length s → AllGood es → drop p s ≡ sheet_of es → read_item (drop p s) ≡ got (item_of x) (drop q s) → Follows s q es (Ok (Some x))
+pub goes_on : (s : List ℕ) (p q : ℕ) (x : Lent) (es : List Item) → p < length s → AllGood es → drop p s ≡ sheet_of es → read_item (drop p s) ≡ got (item_of x) (drop q s) → Follows s q es (Ok (Some x))
 goes_on s p q x [] l g e r = let n = ap length e in let m = length-drop p s in omega arith
 goes_on s p q x (d ∷ ds) l g e r = got_same (item_of x) d (drop q s) (sheet_of ds) (sym r ∙ ap read_item e ∙ back d (sheet_of ds) g.0)
 
 pub breaks : (s : List ℕ) (p : ℕ) (f : SheetFault) (es : List Item) → p < length s → AllGood es → drop p s ≡ sheet_of es → read_item (drop p s) ≡ fault f → ⊥
 breaks s p f es l g q r = refused (drop p s) f (simp length-drop (omega arith)) r (es, g, sym q)
 
--- the entries before a place, n of them; where there are some, the place is before the end
+-- the entries before a place, n of them
 pub record Sofar (s : List ℕ) (p n : ℕ) : Type 0 where
   pub items : List Item
   pub count : length items ≡ n
   pub good : AllGood items
   pub is : sheet_of items ++ drop p s ≡ s
   pub within : p ≤ length s
-  pub more : 0 < length items → p < length s
   pub few : n ≤ p
 
-pub start : (s : List ℕ) → Sofar s 0 0
-start s = record { items = []; count = refl; good = tt; is = refl; within = omega arith; more = λ h. absurd (omega arith); few = omega arith }
+pub start : (s : List ℕ) (p n : ℕ) → p ≡ 0 → n ≡ 0 → Sofar s p n
+start s p n e z = record { items = []; count = omega arith; good = tt; is = ap (λ (i : ℕ). drop i s) e; within = omega arith; few = omega arith }
 
 all_good_push : (es : List Item) (e : Item) → AllGood es → Good e → AllGood (es ++ e ∷ [])
 all_good_push [] e g h = (h, tt)
@@ -145,72 +144,61 @@ sheet_push : (es : List Item) (e : Item) (r : List ℕ) → sheet_of (es ++ e �
 sheet_push [] e r = append_assoc (bytes e) [] r
 sheet_push (d ∷ es) e r = append_assoc (bytes d) (sheet_of (es ++ e ∷ [])) r ∙ ap (λ x. bytes d ++ x) (sheet_push es e r) ∙ sym (append_assoc (bytes d) (sheet_of es) (bytes e ++ r))
 
--- an entry has bytes
-pub further : (s : List ℕ) (p q : ℕ) (e : Item) → Octets s → read_item (drop p s) ≡ got e (drop q s) → p ≤ length s → q ≤ length s → p < q
-further s p q e o r w v =
+-- one entry more, as a next call on the sheet t answers it
+pub on : (s t : List ℕ) (p q n : ℕ) (e : Item) → t ≡ s → Octets s → Sofar s p n → (read_item (drop p t) ≡ got e (drop q t)) × (p < length t) × (p < q) × (q ≤ length t) → Sofar s q (n + 1)
+on s t p q n e te o h a =
+    let r : read_item (drop p s) ≡ got e (drop q s) = subst (λ (x : List ℕ). read_item (drop p x) ≡ got e (drop q x)) te a.0 in
     let g = sound (drop p s) e (drop q s) (All-drop (λ b. b < 256) p s o) r in
-    let l = ap length g.1 in
-    let a = length-append (bytes e) (drop q s) in
-    let m = length-drop p s in
-    let n = length-drop q s in
-    omega arith
-
-module _ (s : List ℕ) (p q n : ℕ) (e : Item) (o : Octets s) (h : Sofar s p n) (r : read_item (drop p s) ≡ got e (drop q s)) where
-  got_good : Good e × (drop p s ≡ bytes e ++ drop q s)
-  got_good = sound (drop p s) e (drop q s) (All-drop (λ b. b < 256) p s o) r
-
-  split : sheet_of (h.items ++ e ∷ []) ++ drop q s ≡ s
-  split = sheet_push h.items e (drop q s) ∙ ap (λ x. sheet_of h.items ++ x) (sym got_good.1) ∙ h.is
-
-  counted_on : length (h.items ++ e ∷ []) ≡ n + 1
-  counted_on = simp length_push (omega (arith, h.count))
-
-  pub on : q < length s → Sofar s q (n + 1)
-  on w = record {
-    items = h.items ++ e ∷ [];
-    count = counted_on;
-    good = all_good_push h.items e h.good got_good.0;
-    is = split;
-    within = omega arith;
-    more = λ _. w;
-    few = omega (arith, h.few, further s p q e o r h.within (omega arith));
-  }
-
-  pub whole : q ≡ length s → (es : List Item) × Holds s es × (n + 1 ≡ length es)
-  whole w = (
-    h.items ++ e ∷ [],
+    let l = ap length te in
     record {
-      some = omega (arith, counted_on);
-      good = all_good_push h.items e h.good got_good.0;
-      is = sym (append-nil (sheet_of (h.items ++ e ∷ []))) ∙ ap (λ x. sheet_of (h.items ++ e ∷ []) ++ x) (sym (drop_all q s (omega arith))) ∙ split;
-    },
-    sym counted_on,
-  )
+      items = h.items ++ e ∷ [];
+      count = simp length_push (omega (arith, h.count));
+      good = all_good_push h.items e h.good g.0;
+      is = sheet_push h.items e (drop q s) ∙ ap (λ x. sheet_of h.items ++ x) (sym g.1) ∙ h.is;
+      within = omega (arith, a.3);
+      few = omega (arith, h.few, a.2);
+    }
 
--- a refusal
-left_empty : (s : List ℕ) (p : ℕ) (es : List Item) → sheet_of es ++ drop p s ≡ s → (0 < length es → p < length s) → length s ≤ p → s ≡ []
-left_empty s p [] e m l = sym e ∙ drop_all p s l
-left_empty s p (d ∷ ds) e m l = let h : 0 < length (d ∷ ds) = omega arith in absurd (omega (arith, m h))
+-- the end, behind one entry or more
+pub whole : (s : List ℕ) (p n : ℕ) → Sofar s p n → length s ≤ p → 0 < n → (es : List Item) × Holds s es × (n ≡ length es)
+whole s p n h e k = (
+  h.items,
+  record {
+    some = omega (arith, h.count);
+    good = h.good;
+    is = sym (append-nil (sheet_of h.items)) ∙ ap (λ x. sheet_of h.items ++ x) (sym (drop_all p s e)) ∙ h.is;
+  },
+  sym h.count,
+)
 
+-- and behind none
 some_made : (fs : List Item) → 0 < length fs → sheet_of fs ≡ [] → ⊥
 some_made [] n q = omega arith
 some_made (f ∷ fs) n q = none_some _ _ (sym q)
 
-refuses : (s : List ℕ) (p n : ℕ) (f : SheetFault) → Sofar s p n → read_item (drop p s) ≡ fault f → (fs : List Item) → Holds s fs → ⊥
-refuses s p n f h r fs g =
-    ⊎_elim
-    (λ (l : p < length s). refused (drop p s) f (simp length-drop (omega arith)) r (strip h.items fs (drop p s) h.good g.good (g.is ∙ sym h.is)))
-    (λ (l : length s ≤ p). some_made fs g.some (g.is ∙ left_empty s p h.items h.is h.more l))
-    (order p (length s))
+empty : (s : List ℕ) (p : ℕ) (es : List Item) → sheet_of es ++ drop p s ≡ s → length es ≡ 0 → length s ≤ p → s ≡ []
+empty s p [] e z l = sym e ∙ drop_all p s l
+empty s p (d ∷ ds) e z l = absurd (omega arith)
 
-pub refusal : (s : List ℕ) (p n : ℕ) (f : SheetFault) → Sofar s p n → read_item (drop p s) ≡ fault f → ((es : List Item) → Holds s es → ⊥) × Broken s (record { fault = f; place = p })
-refusal s p n f h r = (
-  refuses s p n f h r,
-  record {
-    before = h.items;
-    good = h.good;
-    length_before = let l = ap length h.is in let a = length-append (sheet_of h.items) (drop p s) in let m = length-drop p s in omega (arith, h.within);
-    is = h.is;
-    refused = r;
-  },
-)
+pub nothing : (s : List ℕ) (p n : ℕ) → Sofar s p n → length s ≤ p → n ≡ 0 → ((es : List Item) → Holds s es → ⊥) × Broken s (record { fault = Cut; place = 0 })
+nothing s p n h l z =
+    let e : s ≡ [] = empty s p h.items h.is (omega (arith, h.count)) l in (
+      λ fs g. some_made fs g.some (g.is ∙ e),
+      subst (λ (x : List ℕ). Broken x (record { fault = Cut; place = 0 })) (sym e) (record { before = []; good = tt; length_before = refl; is = refl; refused = refl }),
+    )
+
+-- a refusal, as a next call on the sheet t answers it
+pub refusal : (s t : List ℕ) (p n : ℕ) (f : Placed SheetFault) → t ≡ s → Sofar s p n → (read_item (drop p t) ≡ fault f.fault) × (p < length t) × (f.place ≡ p) → ((es : List Item) → Holds s es → ⊥) × Broken s f
+refusal s t p n f te h a =
+    let l = ap length te in
+    let r : read_item (drop p s) ≡ fault f.fault = subst (λ (x : List ℕ). read_item (drop p x) ≡ fault f.fault) te a.0 in
+    let at : f.place ≡ p = a.2 in (
+      λ fs g. refused (drop p s) f.fault (simp length-drop (omega (arith, a.1))) r (strip h.items fs (drop p s) h.good g.good (g.is ∙ sym h.is)),
+      record {
+        before = h.items;
+        good = h.good;
+        length_before = let l = ap length h.is in let a = length-append (sheet_of h.items) (drop p s) in let m = length-drop p s in omega (arith, h.within);
+        is = ap (λ (i : ℕ). sheet_of h.items ++ drop i s) at ∙ h.is;
+        refused = ap (λ (i : ℕ). read_item (drop i s)) at ∙ r;
+      },
+    )

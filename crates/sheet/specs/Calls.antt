@@ -1,5 +1,5 @@
 -- What the sheet's calls do: which answer or refusal they give, and what the buffer then holds.
-use Rattle.std.specs.Prelude.{◌≡◌, ℕ, ◌+◌, ◌-◌, ◌<◌, ◌≤◌, ◌⊎◌, List, [], ◌∷◌, ◌++◌, length, take, drop, Some, None, Ok, Err, Option, Result}
+use Rattle.std.specs.Prelude.{◌≡◌, ℕ, ◌+◌, ◌-◌, ◌<◌, ◌≤◌, ◌⊎◌, Bool, true, false, List, [], ◌∷◌, ◌++◌, length, take, drop, Some, None, Ok, Err, Option, Result}
 use Rattle.std.specs.Borrow.{Bor}
 use Rattle.std.specs.Option.{option_map}
 use Rattle.fault.specs.declared.kinds.SheetFault.{SheetFault}
@@ -10,7 +10,7 @@ use Rattle.sheet.specs.declared.entry.Field.{Field}
 use Rattle.sheet.specs.declared.entry.Field.TheVariants.{Code, Parent, Count, Landing, Months, Drawing}
 use Rattle.sheet.specs.declared.entry.Kind.{Kind}
 use Rattle.sheet.specs.declared.entry.Kind.TheVariants as kind
-use Rattle.sheet.specs.Entries.{Item, Held, Good, AllGood, bytes, sheet_of, item_of}
+use Rattle.sheet.specs.Entries.{Item, Held, Good, AllGood, bytes, sheet_of, Lent, item_of}
 use Rattle.sheet.specs.Reading.{Read, got, fault, read_item}
 
 -- Writing the entry e into the buffer `old` at a place; q is where the next would begin. Values are tested before room.
@@ -18,14 +18,24 @@ abbrev pub Wrote : (old new : List ℕ) (at : ℕ) (e : Item) → Result ℕ (Pl
 Wrote old new at e (Ok q) = Good e × (q ≡ at + length (bytes e)) × (q ≤ length old) × (new ≡ take at old ++ (bytes e ++ drop q old))
 Wrote old new at e (Err f) = (new ≡ old) × (f.place ≡ at) × (((f.fault ≡ Value) × (Good e → ⊥)) ⊎ ((f.fault ≡ Room) × Good e × (length old < at + length (bytes e))))
 
--- What a function that reads at a place of the sheet answers: the value, and where the next begins.
-abbrev pub Told : {T X : Type 0} → List ℕ → (T → X) → Read X → Result (T × ℕ) SheetFault → Type 0
-Told sheet f o (Ok x) = (o ≡ got (f x.0) (drop x.1 sheet)) × (x.1 ≤ length sheet)
-Told sheet f o (Err e) = o ≡ fault e
+-- What a function that reads from the front of some bytes answers: the value, and the bytes behind it.
+abbrev pub Told : {T X : Type 0} → (T → X) → Read X → Result (T × Bor (List ℕ)) SheetFault → Type 0
+Told f o (Ok x) = o ≡ got (f x.0) x.1.now
+Told f o (Err e) = o ≡ fault e
+
+-- The same of a field that is read only if its bit stands, where P says what the reading of such a field may answer.
+abbrev pub HeldOr : {T : Type 0} → Bool → Bor (List ℕ) → (Result (T × Bor (List ℕ)) SheetFault → Type 0) → Result (Option T × Bor (List ℕ)) SheetFault → Type 0
+HeldOr false b P r = r ≡ Ok (None, b)
+HeldOr true b P (Ok (None, rest)) = ⊥
+HeldOr true b P (Ok (Some a, rest)) = P (Ok (a, rest))
+HeldOr true b P (Err e) = P (Err e)
+
+pub record HeldTold {T : Type 0} (on : Bool) (b : Bor (List ℕ)) (P : Result (T × Bor (List ℕ)) SheetFault → Type 0) (r : Result (Option T × Bor (List ℕ)) SheetFault) : Type 0 where
+  pub told : HeldOr on b P r
 
 -- The next call of a reader at place p of the sheet s, which is at place q after it: the end exactly at the sheet's end, or the entry that
 -- stands at p, or the refusal of what stands there, which leaves the place.
-abbrev pub Answered : (s : List ℕ) (p q : ℕ) → Result (Option Entry) (Placed SheetFault) → Type 0
+abbrev pub Answered : (s : List ℕ) (p q : ℕ) → Result (Option Lent) (Placed SheetFault) → Type 0
 Answered s p q (Ok None) = (p ≡ length s) × (q ≡ p)
 Answered s p q (Ok (Some e)) = (read_item (drop p s) ≡ got (item_of e) (drop q s)) × (p < length s) × (p < q) × (q ≤ length s)
 Answered s p q (Err f) = (read_item (drop p s) ≡ fault f.fault) × (p < length s) × (f.place ≡ p) × (q ≡ p)
@@ -34,19 +44,25 @@ Answered s p q (Err f) = (read_item (drop p s) ≡ fault f.fault) × (p < length
 abbrev pub Lies : (b : ℕ × ℕ) (n : ℕ) → Bor (List ℕ) → Type 0
 Lies b n s = s.ref_ptr ≡ (b.0, b.1 + n)
 
+-- the bytes r are the end of the bytes b, in memory too
+pub record Ends (b r : Bor (List ℕ)) : Type 0 where
+  pub long : length r.now ≤ length b.now
+  pub is : r.now ≡ drop (length b.now - length r.now) b.now
+  pub lies : Lies b.ref_ptr (length b.now - length r.now) r
+
 -- The codes and the drawing of an entry that stands from p to q are those very parts of the sheet.
-pub record InPlace (b : ℕ × ℕ) (p q : ℕ) (e : Entry) : Type 0 where
+pub record InPlace (b : ℕ × ℕ) (p q : ℕ) (e : Lent) : Type 0 where
   pub code : Lies b (p + 2) e.code
   pub parent : Held (Lies b (p + 10)) e.parent
   pub drawing : Held (λ s. Lies b (q - length s.now) s) e.drawing
 
-abbrev pub AnsweredInPlace : (b : ℕ × ℕ) (p q : ℕ) → Result (Option Entry) (Placed SheetFault) → Type 0
+abbrev pub AnsweredInPlace : (b : ℕ × ℕ) (p q : ℕ) → Result (Option Lent) (Placed SheetFault) → Type 0
 AnsweredInPlace b p q (Ok None) = Unit {0}
 AnsweredInPlace b p q (Ok (Some e)) = InPlace b p q e
 AnsweredInPlace b p q (Err f) = Unit {0}
 
 -- Where good entries follow, the first of them is answered, and the others follow then.
-abbrev pub Follows : (s : List ℕ) (q : ℕ) → List Item → Result (Option Entry) (Placed SheetFault) → Type 0
+abbrev pub Follows : (s : List ℕ) (q : ℕ) → List Item → Result (Option Lent) (Placed SheetFault) → Type 0
 Follows s q [] (Ok None) = drop q s ≡ []
 Follows s q [] (Ok (Some x)) = ⊥
 Follows s q (e ∷ es) (Ok None) = ⊥
@@ -54,13 +70,13 @@ Follows s q (e ∷ es) (Ok (Some x)) = (item_of x ≡ e) × (drop q s ≡ sheet_
 Follows s q es (Err f) = ⊥
 
 -- the entry last answered, after one more next call
-abbrev pub last_of : Option Entry → Result (Option Entry) (Placed SheetFault) → Option Entry
+abbrev pub last_of : Option Lent → Result (Option Lent) (Placed SheetFault) → Option Lent
 last_of old (Ok None) = old
 last_of old (Ok (Some e)) = Some e
 last_of old (Err f) = old
 
 -- a field of an entry, or absent; absent also where no entry was answered
-abbrev pub field_of : Kind → Entry → Option Field
+abbrev pub field_of : {T : Type 0} → Kind → Entry T → Option (Field T)
 field_of kind.Code e = Some (Code e.code)
 field_of kind.Parent e = option_map Parent e.parent
 field_of kind.Count e = Some (Count e.count)
@@ -68,7 +84,7 @@ field_of kind.Landing e = option_map Landing e.landing
 field_of kind.Months e = option_map Months e.months
 field_of kind.Drawing e = option_map Drawing e.drawing
 
-abbrev pub last_field : Kind → Option Entry → Option Field
+abbrev pub last_field : {T : Type 0} → Kind → Option (Entry T) → Option (Field T)
 last_field k None = None
 last_field k (Some e) = field_of k e
 

@@ -2,6 +2,8 @@
 use Rattle.std.specs.Prelude.{◌≡◌, ℕ, ◌+◌, ◌/◌, ◌%◌, Bool, true, false, cond, ◌&&◌, ◌||◌, List, [], ◌∷◌, ◌++◌, length, ℤ, pos, is_some, Some, None, Option, ◌==◌, nat_le}
 use Rattle.std.proofs.Common.{of_z}
 use Rattle.std.specs.Int.{w8}
+use Rattle.std.specs.List.{list_all}
+use Rattle.std.specs.Borrow.{Bor}
 use Rattle.std.specs.Option.{option_map}
 use Rattle.sheet.specs.declared.entry.Entry.{Entry}
 use Rattle.sheet.specs.Table.{row_of, in_row}
@@ -20,8 +22,7 @@ abbrev pub sign : Bool → ℕ → Bool
 sign slash b = (nat_le 65 b && nat_le b 90) || ((nat_le 48 b && nat_le b 57) || (slash && b == 47))
 
 abbrev pub signs : Bool → List ℕ → Bool
-signs slash [] = true
-signs slash (b ∷ bs) = sign slash b && signs slash bs
+signs slash s = list_all (sign slash) s
 
 -- the forms of the fields, by the rows of the table
 abbrev pub CodeForm : ℕ → List ℕ → Type 0
@@ -89,9 +90,16 @@ sheet_of (e ∷ es) = bytes e ++ sheet_of es
 abbrev pub field_count : Item → ℕ
 field_count e = 2 + cond (is_some e.parent) 1 0 + cond (is_some e.landing) 1 0 + cond (is_some e.months) 1 0 + cond (is_some e.drawing) 1 0
 
--- the entry that the code holds, by what its parts hold
-abbrev pub item_of : Entry → Item
-item_of e = record { code = e.code.now; parent = option_map (λ s. s.now) e.parent; count = e.count; landing = e.landing; months = e.months; drawing = option_map (λ s. s.now) e.drawing }
+-- the entry that the code holds, where t is what a text says
+abbrev pub item_by : {T : Type 0} → (T → List ℕ) → Entry T → Item
+item_by t e = record { code = t e.code; parent = option_map t e.parent; count = e.count; landing = e.landing; months = e.months; drawing = option_map t e.drawing }
+
+-- an entry of lent texts, and what it says
+abbrev pub Lent : Type 0
+Lent = Entry (Bor (List ℕ))
+
+abbrev pub item_of : Lent → Item
+item_of e = item_by (λ s. s.now) e
 
 -- the forms as tests
 abbrev pub code_test : ℕ → List ℕ → Bool

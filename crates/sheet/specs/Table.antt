@@ -1,5 +1,8 @@
 -- The table of an entry's fields, a row for each bit of its map, and the rules of the map.
 use Rattle.std.specs.Prelude.{ℕ, zero, suc, ◌+◌, ◌/◌, ◌%◌, ◌^◌, Bool, true, false, not, ◌&&◌, ◌||◌, List, [], ◌∷◌, ℤ, pos, negsuc, ◌==◌, int_le, slice_index_or}
+use Rattle.std.specs.List.{list_all, range_with_len}
+use Rattle.sheet.specs.declared.entry.Kind.{Kind}
+use Rattle.sheet.specs.declared.entry.Kind.TheVariants.{Code, Parent, Count, Landing, Months, Drawing}
 use Rattle.sheet.specs.declared.table.Row.{Row}
 use Rattle.sheet.specs.declared.table.Need.{Need}
 use Rattle.sheet.specs.declared.table.Need.TheVariants.{Required, Allowed, Unknown}
@@ -20,6 +23,15 @@ rows = record { width = 8; low = pos 0; high = pos 0; need = Required }
 
 unfoldable pub row_of : ℕ → Row
 row_of k = slice_index_or rows k unknown
+
+-- the bit of a kind of field
+abbrev pub bit_of : Kind → ℕ
+bit_of Code = 0
+bit_of Parent = 1
+bit_of Count = 2
+bit_of Landing = 3
+bit_of Months = 4
+bit_of Drawing = 5
 
 -- z lies between the ends of row k
 abbrev pub in_row : ℕ → ℤ → Bool
@@ -56,5 +68,4 @@ complete_at m k = stands m k || not (is_required (row_of k).need)
 
 -- the test passes at each number below k
 unfoldable pub all_below : (ℕ → Bool) → ℕ → Bool
-all_below t zero = true
-all_below t (suc k) = all_below t k && t k
+all_below t k = list_all t (range_with_len 0 k)

@@ -1,27 +1,27 @@
-// One entry, its fields, and their kinds. Codes and drawings are parts of the sheet, or of what the caller lends for writing.
+// One entry, its fields, and their kinds. T holds the text of a code or a drawing: a part of the sheet or of what the caller lends, or a copy.
 
-#[derive(Clone, Copy)]
-pub struct Entry<'a> {
-    pub code: &'a [u8],
-    pub parent: Option<&'a [u8]>,
+#[derive(Clone, Copy, PartialEq, Eq)]
+pub struct Entry<T> {
+    pub code: T,
+    pub parent: Option<T>,
     pub count: u16,
     pub landing: Option<i8>,
     pub months: Option<u16>,
-    pub drawing: Option<&'a [u8]>,
+    pub drawing: Option<T>,
 }
 
-#[derive(Clone, Copy)]
-pub enum Field<'a> {
-    Code(&'a [u8]),
-    Parent(&'a [u8]),
+#[derive(Clone, Copy, PartialEq, Eq)]
+pub enum Field<T> {
+    Code(T),
+    Parent(T),
     Count(u16),
     Landing(i8),
     Months(u16),
-    Drawing(&'a [u8]),
+    Drawing(T),
 }
 
-// The kind of a field that is asked for.
-#[derive(Clone, Copy)]
+// The kinds of fields, in the order of their bits in the map.
+#[derive(Clone, Copy, PartialEq, Eq)]
 pub enum Kind {
     Code,
     Parent,

@@ -1,77 +1,56 @@
 // The map of an entry: which of its bits stand, and whether they may.
 ghost use Rattle.std.specs.Prelude.{◌≡◌, ◌<◌};
-ghost use Rattle.sheet.specs.Table.{all_below, complete_at, is_required, is_unknown, known_at, stands as Stands};
+ghost use Rattle.sheet.specs.Table.{all_below, bit_of, complete_at, known_at, stands as Stands};
 ghost use Rattle.sheet.specs.Entries.{item_map, item_of};
 
-use crate::entry::Entry;
-use crate::table::{Need, row_of};
+use crate::entry::{Entry, Kind};
+use crate::table::{Need, row_at};
 
 // Whether bit k of the map stands.
-pub(crate) fn stands(map: u16, k: u32) -> bool
+fn stands(map: u16, k: u32) -> bool
     requires { k < 16 }
     ensures { result ≡ Stands map k }
 {
     (map >> k) & 1 == 1
 }
 
-fn is_unknown(need: Need) -> bool
-    ensures { result ≡ is_unknown need }
+// Whether the bit of a kind stands.
+pub(crate) fn has(map: u16, kind: Kind) -> bool
+    ensures { result ≡ Stands map (bit_of kind) }
 {
-    match need {
-        Need::Unknown => true,
-        Need::Required | Need::Allowed => false,
-    }
-}
-
-fn is_required(need: Need) -> bool
-    ensures { result ≡ is_required need }
-{
-    match need {
-        Need::Required => true,
-        Need::Unknown | Need::Allowed => false,
-    }
+    stands(map, kind.bit())
 }
 
 fn known_at(map: u16, k: u32) -> bool
     requires { k < 16 }
     ensures { result ≡ known_at map k }
 {
-    !(stands(map, k) && is_unknown(row_of(k as usize).need))
+    !(stands(map, k) && row_at(k as usize).need == Need::Unknown)
 }
 
 fn complete_at(map: u16, k: u32) -> bool
     requires { k < 16 }
     ensures { result ≡ complete_at map k }
 {
-    stands(map, k) || !is_required(row_of(k as usize).need)
+    stands(map, k) || row_at(k as usize).need != Need::Required
 }
 
 // No bit stands that may not.
 pub(crate) fn only_known(map: u16) -> bool
     ensures { result ≡ all_below (known_at map) 16 }
 {
-    for k in 0..16 {
-        if !known_at(map, k) {
-            return false;
-        }
-    }
-    true
+    (0..16).all(|k| known_at(map, k))
 }
 
 // Each bit stands that must.
 pub(crate) fn all_required(map: u16) -> bool
     ensures { result ≡ all_below (complete_at map) 16 }
 {
-    for k in 0..16 {
-        if !complete_at(map, k) {
-            return false;
-        }
-    }
-    true
+    (0..16).all(|k| complete_at(map, k))
 }
 
 // The map of an entry.
-pub(crate) fn map_of(e: Entry<'_>) -> u16
+pub(crate) fn map_of(e: Entry<&[u8]>) -> u16
     ensures { result ≡ item_map (item_of e.entry) }
 {
     5 + (if e.parent.is_some() { 2 } else { 0 })

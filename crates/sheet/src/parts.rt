@@ -1,138 +1,105 @@
-// The fields of an entry, read one by one at a place of the sheet. Each answers its value and the place behind it.
-ghost use Rattle.std.specs.Prelude.{◌≡◌, ◌+◌, ◌-◌, ◌<◌, ◌≤◌, length, drop, IfOk, MatchResult};
-ghost use Rattle.std.specs.Option.{option_map};
-ghost use Rattle.sheet.specs.Table.{row_of};
-ghost use Rattle.sheet.specs.Entries.{Held, item_of};
-ghost use Rattle.sheet.specs.Reading.{fault as refused, got, read_code, read_drawing, read_held, read_item, read_landing, read_map, read_number, some};
-ghost use Rattle.sheet.specs.Calls.{InPlace, Lies, Told};
+// The fields of an entry, each read from the front of some bytes. A call answers the value, and the bytes behind it.
+ghost use Rattle.std.specs.Prelude.{◌≡◌, ℕ, ◌+◌, ◌-◌, ◌<◌, ◌≤◌, length, IfOk};
+ghost use Rattle.sheet.specs.Table.{bit_of, row_of};
+ghost use Rattle.sheet.specs.Entries.{item_of};
+ghost use Rattle.sheet.specs.Reading.{read_code, read_drawing, read_item, read_landing, read_map, read_number, some};
+ghost use Rattle.sheet.specs.Calls.{Ends, HeldTold, InPlace, Lies, Told};
 
-use crate::entry::Entry;
+use crate::entry::{Entry, Kind};
 use crate::forms::are_signs;
-use crate::map::{all_required, only_known, stands};
-use crate::table::{in_row, row_of};
+use crate::map::{all_required, has, only_known};
 use fault::kinds::SheetFault;
 
-// The n bytes at a place.
-fn part(sheet: &[u8], at: usize, n: usize) -> Result<&[u8], SheetFault>
-    requires { at ≤ length sheet.now }
-    ensures { MatchResult result (λ s. (some n (drop at sheet.now) ≡ got s.now (drop (at + n) sheet.now)) × (at + n ≤ length sheet.now) × (length s.now ≡ n) × Lies sheet.entry.ref_ptr at s) (λ e. some n (drop at sheet.now) ≡ refused e) }
+// The first n bytes.
+// Kept: the library's `split_at_checked` does not say where its parts stand in memory.
+fn front(bytes: &[u8], n: usize) -> Result<(&[u8], &[u8]), SheetFault>
+    ensures told { Told (λ s. s.now) (some n bytes.now) result }
+    ensures long { IfOk result (λ x. (length x.0.now ≡ n) × (length x.1.now + n ≡ length bytes.now)) }
+    ensures lies { IfOk result (λ x. (x.0.ref_ptr ≡ bytes.entry.ref_ptr) × Ends bytes.entry x.1) }
 {
-    if sheet.len() - at < n {
+    if bytes.len() < n {
         return Err(SheetFault::Cut);
     }
-    Ok(&sheet[at..at + n])
+    Ok((&bytes[..n], &bytes[n..]))
 }
 
-fn code_at(k: usize, sheet: &[u8], at: usize) -> Result<(&[u8], usize), SheetFault>
-    requires { (at ≤ length sheet.now) × (k < 16) }
-    ensures told { Told sheet.now (λ s. s.now) (read_code k (drop at sheet.now)) result }
-    ensures lies { IfOk result (λ x. Lies sheet.entry.ref_ptr at x.0 × (x.1 ≡ at + (row_of k).width)) }
+fn read_code(kind: Kind, bytes: &[u8]) -> Result<(&[u8], &[u8]), SheetFault>
+    ensures told { Told (λ s. s.now) (read_code (bit_of kind) bytes.now) result }
+    ensures long { IfOk result (λ x. length x.1.now + (row_of (bit_of kind)).width ≡ length bytes.now) }
+    ensures lies { IfOk result (λ x. (x.0.ref_ptr ≡ bytes.entry.ref_ptr) × Ends bytes.entry x.1) }
 {
-    let width = row_of(k).width;
-    let s = part(sheet, at, width)?;
-    if !are_signs(false, s) {
+    let (code, rest) = front(bytes, kind.row().width)?;
+    if !are_signs(false, code) {
         return Err(SheetFault::Value);
     }
-    Ok((s, at + width))
+    Ok((code, rest))
 }
 
-fn number_at(k: usize, sheet: &[u8], at: usize) -> Result<(u16, usize), SheetFault>
-    requires { (at ≤ length sheet.now) × ((k < 16) × ((row_of k).width ≡ 2)) }
-    ensures { Told sheet.now (λ n. n) (read_number k (drop at sheet.now)) result }
+fn read_number(kind: Kind, bytes: &[u8]) -> Result<(u16, &[u8]), SheetFault>
+    requires { (row_of (bit_of kind)).width ≡ 2 }
+    ensures told { Told (λ n. n) (read_number (bit_of kind) bytes.now) result }
+    ensures lies { IfOk result (λ x. Ends bytes.entry x.1) }
 {
-    let width = row_of(k).width;
-    let s = part(sheet, at, width)?;
+    let (s, rest) = front(bytes, kind.row().width)?;
     let n = u16::from_be_bytes([s[0], s[1]]);
-    if !in_row(k, n as i32) {
+    if !kind.admits(i32::from(n)) {
         return Err(SheetFault::Value);
     }
-    Ok((n, at + width))
+    Ok((n, rest))
 }
 
-fn landing_at(sheet: &[u8], at: usize) -> Result<(i8, usize), SheetFault>
-    requires { at ≤ length sheet.now }
-    ensures { Told sheet.now (λ z. z) (read_landing (drop at sheet.now)) result }
+fn read_landing(bytes: &[u8]) -> Result<(i8, &[u8]), SheetFault>
+    ensures told { Told (λ z. z) (read_landing bytes.now) result }
+    ensures lies { IfOk result (λ x. Ends bytes.entry x.1) }
 {
-    let width = row_of(3).width;
-    let s = part(sheet, at, width)?;
+    let (s, rest) = front(bytes, Kind::Landing.row().width)?;
     let z = s[0].cast_signed();
-    if !in_row(3, z as i32) {
+    if !Kind::Landing.admits(i32::from(z)) {
         return Err(SheetFault::Value);
     }
-    Ok((z, at + width))
+    Ok((z, rest))
 }
 
-fn drawing_at(sheet: &[u8], at: usize) -> Result<(&[u8], usize), SheetFault>
-    requires { at ≤ length sheet.now }
-    ensures told { Told sheet.now (λ s. s.now) (read_drawing (drop at sheet.now)) result }
-    ensures lies { IfOk result (λ x. Lies sheet.entry.ref_ptr (x.1 - length x.0.now) x.0) }
+fn read_drawing(bytes: &[u8]) -> Result<(&[u8], &[u8]), SheetFault>
+    ensures told { Told (λ s. s.now) (read_drawing bytes.now) result }
+    ensures long { IfOk result (λ x. length x.1.now + length x.0.now ≤ length bytes.now) }
+    ensures lies { IfOk result (λ x. Lies bytes.entry.ref_ptr (length bytes.now - length x.1.now - length x.0.now) x.0 × Ends bytes.entry x.1) }
 {
-    let width = row_of(5).width;
-    let head = part(sheet, at, width)?;
+    let (head, rest) = front(bytes, Kind::Drawing.row().width)?;
     let n = head[0];
-    if !in_row(5, n as i32) {
+    if !Kind::Drawing.admits(i32::from(n)) {
         return Err(SheetFault::Value);
     }
-    let s = part(sheet, at + width, n as usize)?;
-    if !are_signs(true, s) {
+    let (drawing, rest) = front(rest, usize::from(n))?;
+    if !are_signs(true, drawing) {
         return Err(SheetFault::Value);
     }
-    Ok((s, at + width + n as usize))
+    Ok((drawing, rest))
 }
 
-fn parent_at(on: bool, sheet: &[u8], at: usize) -> Result<(Option<&[u8]>, usize), SheetFault>
-    requires { at ≤ length sheet.now }
-    ensures told { Told sheet.now (option_map (λ s. s.now)) (read_held (read_code 1) on (drop at sheet.now)) result }
-    ensures lies { IfOk result (λ x. Held (Lies sheet.entry.ref_ptr at) x.0) }
+// A field that is read only if its bit stands.
+fn read_held<'a, T, F: FnOnce(&'a [u8]) -> Result<(T, &'a [u8]), SheetFault>>(
+    on: bool,
+    bytes: &'a [u8],
+    read: F,
+) -> Result<(Option<T>, &'a [u8]), SheetFault>
+    requires { F.pre read bytes }
+    ensures { HeldTold on bytes.entry (F.post read bytes.entry) result }
 {
     if !on {
-        return Ok((None, at));
+        return Ok((None, bytes));
     }
-    let (s, next) = code_at(1, sheet, at)?;
-    Ok((Some(s), next))
+    let (value, rest) = read(bytes)?;
+    Ok((Some(value), rest))
 }
 
-fn landing_if(on: bool, sheet: &[u8], at: usize) -> Result<(Option<i8>, usize), SheetFault>
-    requires { at ≤ length sheet.now }
-    ensures { Told sheet.now (λ o. o) (read_held read_landing on (drop at sheet.now)) result }
+// The map: cut short, then a bit that may not stand, then one that is missing.
+fn read_map(bytes: &[u8]) -> Result<(u16, &[u8]), SheetFault>
+    ensures told { Told (λ m. m) (read_map bytes.now) result }
+    ensures long { IfOk result (λ x. length x.1.now + 2 ≡ length bytes.now) }
+    ensures lies { IfOk result (λ x. Ends bytes.entry x.1) }
 {
-    if !on {
-        return Ok((None, at));
-    }
-    let (z, next) = landing_at(sheet, at)?;
-    Ok((Some(z), next))
-}
-
-fn months_at(on: bool, sheet: &[u8], at: usize) -> Result<(Option<u16>, usize), SheetFault>
-    requires { at ≤ length sheet.now }
-    ensures { Told sheet.now (λ o. o) (read_held (read_number 4) on (drop at sheet.now)) result }
-{
-    if !on {
-        return Ok((None, at));
-    }
-    let (n, next) = number_at(4, sheet, at)?;
-    Ok((Some(n), next))
-}
-
-fn drawing_if(on: bool, sheet: &[u8], at: usize) -> Result<(Option<&[u8]>, usize), SheetFault>
-    requires { at ≤ length sheet.now }
-    ensures told { Told sheet.now (option_map (λ s. s.now)) (read_held read_drawing on (drop at sheet.now)) result }
-    ensures lies { IfOk result (λ x. Held (λ s. Lies sheet.entry.ref_ptr (x.1 - length s.now) s) x.0) }
-{
-    if !on {
-        return Ok((None, at));
-    }
-    let (s, next) = drawing_at(sheet, at)?;
-    Ok((Some(s), next))
-}
-
-// The map at a place: cut short, then a bit that may not stand, then one that is missing.
-fn map_at(sheet: &[u8], at: usize) -> Result<(u16, usize), SheetFault>
-    requires { at ≤ length sheet.now }
-    ensures told { Told sheet.now (λ m. m) (read_map (drop at sheet.now)) result }
-    ensures lies { IfOk result (λ x. x.1 ≡ at + 2) }
-{
-    let s = part(sheet, at, 2)?;
+    let (s, rest) = front(bytes, 2)?;
     let map = u16::from_be_bytes([s[0], s[1]]);
     if !only_known(map) {
         return Err(SheetFault::UnknownBit);
@@ -140,23 +107,25 @@ fn map_at(sheet: &[u8], at: usize) -> Result<(u16, usize), SheetFault>
     if !all_required(map) {
         return Err(SheetFault::Missing);
     }
-    Ok((map, at + 2))
+    Ok((map, rest))
 }
 
-// The entry at a place.
-pub(crate) fn entry_at(sheet: &[u8], at: usize) -> Result<(Entry<'_>, usize), SheetFault>
-    requires { at ≤ length sheet.now }
-    ensures told { Told sheet.now item_of (read_item (drop at sheet.now)) result }
-    ensures further { IfOk result (λ x. at < x.1) }
-    ensures lies { IfOk result (λ x. InPlace sheet.entry.ref_ptr at x.1 x.0) }
+// An entry.
+pub(crate) fn read_entry(bytes: &[u8]) -> Result<(Entry<&[u8]>, &[u8]), SheetFault>
+    ensures told { Told item_of (read_item bytes.now) result }
+    ensures lies { IfOk result (λ x. Ends bytes.entry x.1 × (length x.1.now < length bytes.now) × ((m : ℕ × ℕ) (n : ℕ) → Lies m n bytes.entry → InPlace m n (n + (length bytes.now - length x.1.now)) x.0)) }
 {
-    let (map, p0) = map_at(sheet, at)?;
-    let (code, p1) = code_at(0, sheet, p0)?;
-    let (parent, p2) = parent_at(stands(map, 1), sheet, p1)?;
-    let (count, p3) = number_at(2, sheet, p2)?;
-    let (landing, p4) = landing_if(stands(map, 3), sheet, p3)?;
-    let (months, p5) = months_at(stands(map, 4), sheet, p4)?;
-    let (drawing, p6) = drawing_if(stands(map, 5), sheet, p5)?;
+    let (map, rest) = read_map(bytes)?;
+    let (code, rest) = read_code(Kind::Code, rest)?;
+    let (parent, rest) = read_held(has(map, Kind::Parent), rest, |b| read_code(Kind::Parent, b))?;
+    let (count, rest) = read_number(Kind::Count, rest)?;
+    let (landing, rest) = read_held(has(map, Kind::Landing), rest, read_landing)?;
+    let (months, rest) = read_held(
+        has(map, Kind::Months),
+        rest,
+        |b| read_number(Kind::Months, b),
+    )?;
+    let (drawing, rest) = read_held(has(map, Kind::Drawing), rest, read_drawing)?;
     let entry = Entry {
         code,
         parent,
@@ -165,5 +134,5 @@ pub(crate) fn entry_at(sheet: &[u8], at: usize) -> Result<(Entry<'_>, usize), Sh
         months,
         drawing,
     };
-    Ok((entry, p6))
+    Ok((entry, rest))
 }

@@ -4,7 +4,7 @@ ghost use Rattle.sheet.specs.Entries.{AllGood, Item, sheet_of};
 ghost use Rattle.sheet.specs.Calls.{Answered, AnsweredInPlace, Follows, last_field, last_of};
 
 use crate::entry::{Entry, Field, Kind};
-use crate::parts::entry_at;
+use crate::parts::read_entry;
 use fault::kinds::{Placed, SheetFault};
 
 // A sheet, a place in it, and the entry last answered.
@@ -12,7 +12,7 @@ use fault::kinds::{Placed, SheetFault};
 pub struct Reader<'a> {
     sheet: &'a [u8],
     place: usize,
-    last: Option<Entry<'a>>,
+    last: Option<Entry<&'a [u8]>>,
     ghost within: { place ≤ length sheet.now },
 }
 
@@ -29,7 +29,7 @@ impl<'a> Reader<'a> {
     }
 
     // The following entry, or `None` at the sheet's end. A refusal leaves the reader as it was.
-    pub fn next(&mut self) -> Result<Option<Entry<'a>>, Placed<SheetFault>>
+    pub fn next(&mut self) -> Result<Option<Entry<&'a [u8]>>, Placed<SheetFault>>
         ensures answer { Answered self.old.sheet.now self.old.place self.new.place result }
         ensures follows { (es : List Item) → AllGood es → drop self.old.place self.old.sheet.now ≡ sheet_of es → Follows self.old.sheet.now self.new.place es result }
         ensures last { self.new.last ≡ last_of self.old.last result }
@@ -41,9 +41,9 @@ impl<'a> Reader<'a> {
         if place == sheet.len() {
             return Ok(None);
         }
-        match entry_at(sheet, place) {
-            Ok((entry, next)) => {
-                self.place = next;
+        match read_entry(&sheet[place..]) {
+            Ok((entry, rest)) => {
+                self.place = sheet.len() - rest.len();
                 self.last = Some(entry);
                 Ok(Some(entry))
             }
@@ -52,7 +52,7 @@ impl<'a> Reader<'a> {
     }
 
     // A field of the entry last answered, or `None` where it has no such field or none was answered yet.
-    pub fn field(&self, kind: Kind) -> Option<Field<'a>>
+    pub fn field(&self, kind: Kind) -> Option<Field<&'a [u8]>>
         ensures { result ≡ last_field kind self.now.last }
     {
         let e = self.last?;

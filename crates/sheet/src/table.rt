@@ -1,9 +1,11 @@
 // The table of an entry's fields: a row for each bit of its map.
 ghost use Rattle.std.specs.Prelude.{◌≡◌, ◌<◌};
-ghost use Rattle.sheet.specs.Table.{in_row, row_of};
+ghost use Rattle.sheet.specs.Table.{bit_of, in_row, row_of};
+
+use crate::entry::Kind;
 
 // Whether a bit must stand, may stand, or may not.
-#[derive(Clone, Copy)]
+#[derive(Clone, Copy, PartialEq, Eq)]
 pub(crate) enum Need {
     Required,
     Allowed,
@@ -81,18 +83,34 @@ const ROWS: [Row; 16] = [
     UNKNOWN,
 ];
 
-pub(crate) fn row_of(k: usize) -> Row
+// The row of a bit.
+pub(crate) fn row_at(k: usize) -> Row
     requires { k < 16 }
     ensures { result ≡ row_of k }
 {
     ROWS[k]
 }
 
-// Whether z lies between the ends of row k.
-pub(crate) fn in_row(k: usize, z: i32) -> bool
-    requires { k < 16 }
-    ensures { result ≡ in_row k z }
-{
-    let row = row_of(k);
-    row.low <= z && z <= row.high
+impl Kind {
+    // The number of its bit.
+    pub(crate) fn bit(self) -> u32
+        ensures { result ≡ bit_of self }
+    {
+        self as u32
+    }
+
+    // Its row of the table.
+    pub(crate) fn row(self) -> Row
+        ensures { result ≡ row_of (bit_of self) }
+    {
+        ROWS[self as usize]
+    }
+
+    // Whether z lies between the ends of its row.
+    pub(crate) fn admits(self, z: i32) -> bool
+        ensures { result ≡ in_row (bit_of self) z }
+    {
+        let row = self.row();
+        row.low <= z && z <= row.high
+    }
 }

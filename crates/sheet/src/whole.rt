@@ -2,27 +2,25 @@
 ghost use Rattle.sheet.specs.Calls.{Tested};
 ghost use Rattle.sheet.specs.Laws.{ReadingLaw, UniqueLaw};
 
-use crate::parts::entry_at;
+use crate::reader::Reader;
 use fault::kinds::{Placed, SheetFault};
 
 // Tests every entry and answers how many there are. A sheet has one at least.
 pub fn test(sheet: &[u8]) -> Result<usize, Placed<SheetFault>>
     ensures { Tested sheet.now result }
 {
-    let mut place = 0;
+    let mut reader = Reader::new(sheet);
     let mut count = 0;
-    loop {
-        match entry_at(sheet, place) {
-            Ok((_, next)) => {
-                place = next;
-                count += 1;
-            }
-            Err(fault) => return Err(Placed { fault, place }),
-        }
-        if place == sheet.len() {
-            return Ok(count);
-        }
+    while let Some(_) = reader.next()? {
+        count += 1;
     }
+    if count == 0 {
+        return Err(Placed {
+            fault: SheetFault::Cut,
+            place: 0,
+        });
+    }
+    Ok(count)
 }
 
 // An entry is read exactly where its bytes stand, and no two lists of entries have the same sheet.

@@ -76,7 +76,7 @@ fn put_drawing(out: &mut [u8], at: usize, drawing: Option<&[u8]>) -> usize
 }
 
 // The bytes of a good entry, 56 at most, at the front of `out`.
-fn encode(e: Entry<'_>, out: &mut [u8]) -> usize
+fn encode(e: Entry<&[u8]>, out: &mut [u8]) -> usize
     requires { (Good (item_of e)) × (length out.old ≡ 56) }
     ensures { (take result out.new ≡ bytes (item_of e.entry)) × (result ≡ length (bytes (item_of e.entry))) × (result ≤ 56) }
 {
@@ -92,7 +92,7 @@ fn encode(e: Entry<'_>, out: &mut [u8]) -> usize
 }
 
 // Writes one entry at a place of the buffer, and answers the place where the next would begin.
-pub fn write(e: Entry<'_>, buf: &mut [u8], at: usize) -> Result<usize, Placed<SheetFault>>
+pub fn write(e: Entry<&[u8]>, buf: &mut [u8], at: usize) -> Result<usize, Placed<SheetFault>>
     ensures { Wrote buf.old buf.new at (item_of e.entry) result }
 {
     if !is_good(e) {
@@ -114,7 +114,7 @@ pub fn write(e: Entry<'_>, buf: &mut [u8], at: usize) -> Result<usize, Placed<Sh
 }
 
 // How many fields an entry has: as many as bits stand in its map.
-pub fn fields(e: Entry<'_>) -> u32
+pub fn fields(e: Entry<&[u8]>) -> u32
     ensures bits { result ≡ standing (item_map (item_of e.entry)) 16 }
     ensures fields { result ≡ field_count (item_of e.entry) }
 {

@@ -13,7 +13,7 @@ use std::test::Fail;
 fn shows(
     rt: &impl Abort,
     heap: Global,
-    e: Entry<'_>,
+    e: Entry<&[u8]>,
     text: &[u8],
     case: &impl Display,
 ) -> Result<(), Fail> {
@@ -33,7 +33,7 @@ fn shows(
 fn lacks_room(
     rt: &impl Abort,
     heap: Global,
-    e: Entry<'_>,
+    e: Entry<&[u8]>,
     end: usize,
     case: &impl Display,
 ) -> Result<(), Fail> {
@@ -54,7 +54,7 @@ fn lacks_room(
 }
 
 // An entry is refused for its values, where its line has no room too.
-fn refuses(rt: &impl Abort, e: Entry<'_>, case: &impl Display) {
+fn refuses(rt: &impl Abort, e: Entry<&[u8]>, case: &impl Display) {
     let mut buf = [0xee; 75];
     assert_eq!(rt;
         line(e, &mut buf, 3),
@@ -109,7 +109,7 @@ fn lines(rt: HostRuntime) -> Result<(), Fail> {
         ..SHORTEST
     };
     shows(&rt, heap, e, b"DOORSH01;-;1;0;25;0;-\n", &"a need of 0")?;
-    let e = Entry {
+    let e: Entry<&[u8]> = Entry {
         landing: Some(40),
         parent: Some(b"CABIN001"),
         ..SHORTEST

@@ -3,7 +3,8 @@ use crate::samples::{SHORTEST, refused};
 use crate::vectors::{ENDS, KEY, LABEL, MIRROR, SHAFT, SHEET};
 use delivery::message::seal;
 use delivery::sheets::open_sheet;
-use fault::kinds::{KeyFault, Placed, SessionFault, SheetFault};
+use fault::kinds::{KeyFault, SessionFault, SheetFault};
+use fault::shown::Fault;
 use sheet::entry::Entry;
 use sheet::writing::write;
 use std::alloc::Global;
@@ -12,15 +13,11 @@ use std::process::Abort;
 use std::test::Fail;
 use wire::parse::Delivery;
 
-fn open(d: Delivery<'_>, out: &mut [u8]) -> Result<usize, Placed<SheetFault>> {
-    open_sheet(d.suite, d.key, d.header, d.ciphertext, d.tag, out)
-}
-
 #[test]
 fn opens(rt: HostRuntime) {
     for d in [SHAFT, MIRROR] {
         let mut out = [0xee; 90];
-        assert_eq!(rt; open(d, &mut out), Ok(3));
+        assert_eq!(rt; open_sheet(d, &mut out), Ok(3));
         assert!(rt; &out[0..84] == SHEET.as_slice(), "other sheet");
         assert!(rt;
             &out[84..90] == [0xee; 6].as_slice(),
@@ -39,7 +36,7 @@ fn opens_without_header(rt: HostRuntime) {
         ..MIRROR
     };
     let mut out = [0xee; 12];
-    assert_eq!(rt; open(d, &mut out), Ok(1));
+    assert_eq!(rt; open_sheet(d, &mut out), Ok(1));
     assert!(rt; &out == b"\x00\x05DOORSH01\x00\x02", "other sheet");
 }
 
@@ -50,7 +47,7 @@ fn largest(rt: &impl Abort, heap: Global) -> Result<Vec<u8>, Fail> {
     for count in 1..1365u16 {
         at = write(Entry { count, ..SHORTEST }, &mut sheet, at)?;
     }
-    let last = Entry {
+    let last: Entry<&[u8]> = Entry {
         drawing: Some(b"A/1"),
         ..SHORTEST
     };
@@ -62,8 +59,7 @@ fn largest(rt: &impl Abort, heap: Global) -> Result<Vec<u8>, Fail> {
 fn largest_sheet(rt: HostRuntime) -> Result<(), Fail> {
     let heap = rt.alloc();
     let sheet = largest(&rt, heap)?;
-    for i in 0..2usize {
-        let ends = &ENDS[i];
+    for ends in &ENDS {
         let mut ciphertext = vec![in heap; 0; 16384]?;
         let mut tag = [0; 16];
         let n = seal(ends.suite, KEY, LABEL, &sheet, &mut ciphertext, &mut tag)?;
@@ -79,7 +75,14 @@ fn largest_sheet(rt: HostRuntime) -> Result<(), Fail> {
         );
         assert_eq!(rt; tag, ends.tag);
         let mut out = vec![in heap; 0xee; 16384]?;
-        let count = open_sheet(ends.suite, KEY, LABEL, &ciphertext, &tag, &mut out)?;
+        let d = Delivery {
+            suite: ends.suite,
+            key: KEY,
+            header: LABEL,
+            ciphertext: &ciphertext,
+            tag: &tag,
+        };
+        let count = open_sheet(d, &mut out)?;
         assert_eq!(rt; count, 1365);
         assert!(rt; out.as_slice() == sheet.as_slice(), "other sheet");
     }
@@ -98,7 +101,7 @@ fn refuses(
     case: &impl Display,
 ) -> Result<(), Fail> {
     let mut out = vec![in heap; 0xee; room]?;
-    assert_eq!(rt; open(d, &mut out), refused(fault, place), "{case}");
+    assert_eq!(rt; open_sheet(d, &mut out), refused(fault, place), "{case}");
     assert_eq!(rt; fault.number(), number, "{case}");
     let zeros = if number < 9 { 0 } else { d.ciphertext.len() };
     for (i, b) in out.as_slice().iter().enumerate() {
@@ -247,8 +250,7 @@ const BROKEN: [(&'static [u8], u8, SheetFault, usize); 6] = [
 
 #[test]
 fn refused_sheets(rt: HostRuntime) -> Result<(), Fail> {
-    for i in 0..6usize {
-        let (sheet, number, fault, place) = BROKEN[i];
+    for (i, (sheet, number, fault, place)) in BROKEN.into_iter().enumerate() {
         refuses_sealed(
             &rt,
             rt.alloc(),

@@ -1,5 +1,5 @@
 // Reading of entries: field by field, several end to end, and every refusal, with its place and what is answered after it.
-use crate::samples::{LONGEST, SHORTEST, refused, same};
+use crate::samples::{LONGEST, SHORTEST, refused};
 use fault::kinds::SheetFault;
 use sheet::entry::{Entry, Field, Kind};
 use sheet::reader::Reader;
@@ -20,7 +20,7 @@ const KINDS: [Kind; 6] = [
 ];
 
 // Whether the reader answers this field as the entry has it.
-fn answers(r: &Reader<'_>, kind: Kind, e: Entry<'_>) -> bool {
+fn answers(r: &Reader<'_>, kind: Kind, e: Entry<&[u8]>) -> bool {
     match (kind, r.field(kind)) {
         (Kind::Code, Some(Field::Code(s))) => s == e.code,
         (Kind::Parent, Some(Field::Parent(s))) => e.parent == Some(s),
@@ -37,7 +37,7 @@ fn answers(r: &Reader<'_>, kind: Kind, e: Entry<'_>) -> bool {
 }
 
 // The reader speaks for this entry.
-fn speaks_for(rt: &impl Abort, r: &Reader<'_>, e: Entry<'_>, case: &impl Display) {
+fn speaks_for(rt: &impl Abort, r: &Reader<'_>, e: Entry<&[u8]>, case: &impl Display) {
     for kind in KINDS {
         assert!(rt; answers(r, kind, e), "other field: {case}");
     }
@@ -54,11 +54,11 @@ fn is_silent(rt: &impl Abort, r: &Reader<'_>, case: &impl Display) {
 fn reads(
     rt: &impl Abort,
     r: &mut Reader<'_>,
-    e: Entry<'_>,
+    e: Entry<&[u8]>,
     case: &impl Display,
 ) -> Result<(), Fail> {
     let read = r.next()?.ok_or("no entry")?;
-    assert!(rt; same(read, e), "other entry: {case}");
+    assert!(rt; read == e, "other entry: {case}");
     speaks_for(rt, r, e, case);
     Ok(())
 }
@@ -190,8 +190,7 @@ const BROKEN: [(&'static [u8], SheetFault); 26] = [
 #[test]
 fn broken_entries(rt: HostRuntime) -> Result<(), Fail> {
     let heap = rt.alloc();
-    for i in 0..26usize {
-        let (bytes, fault) = BROKEN[i];
+    for (i, (bytes, fault)) in BROKEN.into_iter().enumerate() {
         refuses(&rt, heap, bytes, fault, &format_args!("case {i}"))?;
     }
     Ok(())

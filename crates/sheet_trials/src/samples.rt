@@ -1,10 +1,10 @@
-// What the tests share: two entries, whether entries are the same, what a refusal is, and whether a buffer is as it was filled.
+// What the tests share: two entries, what a refusal is, and whether a buffer is as it was filled.
 use fault::kinds::{Placed, SheetFault};
 use sheet::entry::Entry;
 use std::fmt::Display;
 use std::process::Abort;
 
-pub(crate) const SHORTEST: Entry<'static> = Entry {
+pub(crate) const SHORTEST: Entry<&'static [u8]> = Entry {
     code: b"DOORSH01",
     parent: None,
     count: 2,
@@ -13,7 +13,7 @@ pub(crate) const SHORTEST: Entry<'static> = Entry {
     drawing: None,
 };
 
-pub(crate) const LONGEST: Entry<'static> = Entry {
+pub(crate) const LONGEST: Entry<&'static [u8]> = Entry {
     code: b"ROLLER77",
     parent: Some(b"DOORSH01"),
     count: 9999,
@@ -21,16 +21,6 @@ pub(crate) const LONGEST: Entry<'static> = Entry {
     months: Some(600),
     drawing: Some(b"A/1234567890/BCDEFGHIJKLMNOPQRST"),
 };
-
-// Whether two entries have the same fields.
-pub(crate) fn same(a: Entry<'_>, b: Entry<'_>) -> bool {
-    a.code == b.code
-        && a.parent == b.parent
-        && a.count == b.count
-        && a.landing == b.landing
-        && a.months == b.months
-        && a.drawing == b.drawing
-}
 
 pub(crate) fn refused(fault: SheetFault, place: usize) -> Result<usize, Placed<SheetFault>> {
     Err(Placed { fault, place })

@@ -1,5 +1,5 @@
 // Writing of entries: their bytes, how many fields they have, each bound of a value and one past it, and what a buffer then holds.
-use crate::samples::{LONGEST, SHORTEST, kept, refused, same};
+use crate::samples::{LONGEST, SHORTEST, kept, refused};
 use fault::kinds::SheetFault;
 use sheet::entry::Entry;
 use sheet::reader::Reader;
@@ -11,7 +11,7 @@ use std::process::Abort;
 use std::test::Fail;
 
 // An entry is refused for its values, where it has no room too.
-fn refuses(rt: &impl Abort, e: Entry<'_>, case: &impl Display) {
+fn refuses(rt: &impl Abort, e: Entry<&[u8]>, case: &impl Display) {
     let mut buf = [0xee; 64];
     assert_eq!(rt;
         write(e, &mut buf, 3),
@@ -35,7 +35,7 @@ fn refuses(rt: &impl Abort, e: Entry<'_>, case: &impl Display) {
 fn lacks_room(
     rt: &impl Abort,
     heap: Global,
-    e: Entry<'_>,
+    e: Entry<&[u8]>,
     end: usize,
     case: &impl Display,
 ) -> Result<(), Fail> {
@@ -56,14 +56,19 @@ fn lacks_room(
 }
 
 // An entry is written at place 3, alters nothing else, and is read back.
-fn accepts(rt: &impl Abort, heap: Global, e: Entry<'_>, case: &impl Display) -> Result<(), Fail> {
+fn accepts(
+    rt: &impl Abort,
+    heap: Global,
+    e: Entry<&[u8]>,
+    case: &impl Display,
+) -> Result<(), Fail> {
     let mut buf = [0xee; 64];
     let end = write(e, &mut buf, 3)?;
     assert!(rt; 3 < end && end <= 64, "{case}");
     kept(rt, &buf, 3, end, case);
     assert_eq!(rt; test(&buf[3..end]), Ok(1), "{case}");
     let read = Reader::new(&buf[3..end]).next()?.ok_or("no entry")?;
-    assert!(rt; same(read, e), "read otherwise: {case}");
+    assert!(rt; read == e, "read otherwise: {case}");
     let mut exact = vec![in heap; 0; end]?;
     assert_eq!(rt; write(e, &mut exact, 3), Ok(end), "exact room: {case}");
     lacks_room(rt, heap, e, end, case)
@@ -72,7 +77,7 @@ fn accepts(rt: &impl Abort, heap: Global, e: Entry<'_>, case: &impl Display) -> 
 fn tried(
     rt: &impl Abort,
     heap: Global,
-    e: Entry<'_>,
+    e: Entry<&[u8]>,
     good: bool,
     case: &impl Display,
 ) -> Result<(), Fail> {
@@ -151,8 +156,7 @@ const DRAWINGS: [(&'static [u8], bool); 7] = [
 #[test]
 fn texts(rt: HostRuntime) -> Result<(), Fail> {
     let heap = rt.alloc();
-    for i in 0..7usize {
-        let (s, good) = CODES[i];
+    for (i, (s, good)) in CODES.into_iter().enumerate() {
         let e = Entry {
             code: s,
             ..SHORTEST
@@ -163,7 +167,8 @@ fn texts(rt: HostRuntime) -> Result<(), Fail> {
             ..SHORTEST
         };
         tried(&rt, heap, e, good, &format_args!("parent {i}"))?;
-        let (s, good) = DRAWINGS[i];
+    }
+    for (i, (s, good)) in DRAWINGS.into_iter().enumerate() {
         let e = Entry {
             drawing: Some(s),
             ..SHORTEST

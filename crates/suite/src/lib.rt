@@ -59,13 +59,12 @@ pub trait Suite {
     type HeaderDigest: HeaderDigest + Drop;
 
     // the suite's number
-    ghost number: { ℕ };
+    ghost NUMBER: { ℕ };
+
+    const NUMBER: u8;
 
     // its functions under a key
     ghost under: { List ℕ → Functions };
-
-    fn number() -> u8
-        ensures { result ≡ number };
 
     // A number as a block, the same under every key.
     fn encode(n: u64) -> [u8; 16]

@@ -1,4 +1,5 @@
 pub mod Numbers
+pub mod Listed
 pub mod Chained
 pub mod Mirror
 pub mod Shaft

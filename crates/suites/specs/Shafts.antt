@@ -1,5 +1,5 @@
 -- The shaft suite is lawful, and what its set-up makes is what its functions say.
-use Rattle.std.specs.Prelude.{◌≡◌, ℕ, List, ◌++◌, take}
+use Rattle.std.specs.Prelude.{◌≡◌, ℕ, List, [], ◌++◌}
 use Rattle.poet.specs.Bytes.{Block}
 use Rattle.poet.specs.Functions.{Permutes, Lawful}
 use Rattle.aes.specs.Cipher.{cipher}
@@ -31,14 +31,14 @@ shaft_lawful L b =
 pub made : (L b k : List ℕ) (s t : List (List ℕ)) (n : ℕ) → s ≡ schedule L → b ≡ big_endian n → k ≡ cipher s b → t ≡ schedule k → t ≡ schedule (aes L (big_endian n))
 made L b k s t n se be ke te = cc
 
--- the rule of a digest over the round keys p and q
-rule : (h : List ℕ) (p q : List (List ℕ)) (x y : List ℕ) (n : ℕ) → List ℕ → List ℕ
-rule h p q x y n = λ r. chained (cipher p) (cipher q) x y (take n h ++ r)
+-- the rule of a digest that holds h, over the round keys p and q
+rule : (h : List ℕ) (p q : List (List ℕ)) (x y : List ℕ) → List ℕ → List ℕ
+rule h p q x y = λ r. chained (cipher p) (cipher q) x y (h ++ r)
 
-rule_is : (h : List ℕ) (p q p' q' : List (List ℕ)) (x y b : List ℕ) (n : ℕ) → p ≡ p' → q ≡ q' → x ≡ b → y ≡ b → n ≡ 0 → rule h p q x y n ≡ rule h p' q' b b 0
-rule_is h p q p' q' x y b n pe qe xe ye ne = cc
+rule_is : (h : List ℕ) (p q p' q' : List (List ℕ)) (x y b : List ℕ) → p ≡ p' → q ≡ q' → x ≡ b → y ≡ b → h ≡ [] → rule h p q x y ≡ rule [] p' q' b b
+rule_is h p q p' q' x y b pe qe xe ye he = cc
 
-pub digests : (h : List ℕ) (p q p' q' : List (List ℕ)) (x y b : List ℕ) (n : ℕ) → p ≡ p' → q ≡ q' → x ≡ b → y ≡ b → n ≡ 0
-    → ◌≡◌ {A = List ℕ → List ℕ} (λ r. chained (cipher p) (cipher q) x y (take n h ++ r)) (λ r. chained (cipher p') (cipher q') b b r)
+pub digests : (h : List ℕ) (p q p' q' : List (List ℕ)) (x y b : List ℕ) → p ≡ p' → q ≡ q' → x ≡ b → y ≡ b → h ≡ []
+    → ◌≡◌ {A = List ℕ → List ℕ} (λ r. chained (cipher p) (cipher q) x y (h ++ r)) (λ r. chained (cipher p') (cipher q') b b r)
 unfolding rule
-digests h p q p' q' x y b n pe qe xe ye ne = rule_is h p q p' q' x y b n pe qe xe ye ne
+digests h p q p' q' x y b pe qe xe ye he = rule_is h p q p' q' x y b pe qe xe ye he

@@ -2,6 +2,7 @@
 ghost use Rattle.std.specs.Prelude.{◌≡◌, ℕ, ◌≤◌, List, [], ◌∷◌, ◌++◌, take};
 ghost use Rattle.suites.specs.Chained.{chained};
 
+use buffer::Buffer;
 use poet::{complete, xor};
 use suite::{ChainingHash, HeaderDigest, Permutation};
 
@@ -16,47 +17,43 @@ pub struct Chained<P, H> {
     hash: H,
     x: [u8; 16],
     y: [u8; 16],
-    held: [u8; 16],
-    len: usize,
-    ghost within: { len ≤ 16 },
+    held: Buffer<16>,
 }
 
 impl<P: Permutation, H: ChainingHash> Chained<P, H> {
     // A new digest, whose rows begin at the block `first`.
     pub fn new(permutation: P, hash: H, first: [u8; 16]) -> Chained<P, H>
         ensures parts { (result.permutation ≡ permutation) × (result.hash ≡ hash) }
-        ensures rows { (result.x ≡ first) × (result.y ≡ first) × (result.len ≡ 0) }
+        ensures rows { (result.x ≡ first) × (result.y ≡ first) × (result.held ≡ []) }
     {
         Chained {
             permutation,
             hash,
             x: first,
             y: first,
-            held: [0; 16],
-            len: 0,
+            held: Buffer::new(),
         }
     }
 
     // One byte more.
     fn push(&mut self, b: u8)
-        ensures { (r : List ℕ) → chained (P.Permutation.enc self.new.permutation) (H.ChainingHash.chain self.new.hash) self.new.x self.new.y (take self.new.len self.new.held ++ r) ≡ chained (P.Permutation.enc self.old.permutation) (H.ChainingHash.chain self.old.hash) self.old.x self.old.y (take self.old.len self.old.held ++ b ∷ r) }
+        ensures { (r : List ℕ) → chained (P.Permutation.enc self.new.permutation) (H.ChainingHash.chain self.new.hash) self.new.x self.new.y (self.new.held ++ r) ≡ chained (P.Permutation.enc self.old.permutation) (H.ChainingHash.chain self.old.hash) self.old.x self.old.y (self.old.held ++ b ∷ r) }
     {
-        if self.len < 16 {
-            let at = self.len;
-            self.held[at] = b;
-            self.len = at + 1;
-            return;
+        match self.held.full() {
+            None => self.held.extend(&[b]),
+            Some(block) => {
+                let x = xor(self.hash.hash(self.x), block);
+                self.y = self.permutation.encrypt(x);
+                self.x = x;
+                self.held = Buffer::new();
+                self.held.extend(&[b]);
+            }
         }
-        let x = xor(self.hash.hash(self.x), self.held);
-        self.y = self.permutation.encrypt(x);
-        self.x = x;
-        self.held[0] = b;
-        self.len = 1;
     }
 }
 
 impl<P: Permutation + Drop, H: ChainingHash + Drop> HeaderDigest for Chained<P, H> {
-    ghost rule = { λ s r. chained (P.Permutation.enc s.permutation) (H.ChainingHash.chain s.hash) s.x s.y (take s.len s.held ++ r) };
+    ghost rule = { λ s r. chained (P.Permutation.enc s.permutation) (H.ChainingHash.chain s.hash) s.x s.y (s.held ++ r) };
 
     fn absorb(&mut self, p: &[u8]) {
         for b in p {
@@ -71,9 +68,8 @@ impl<P: Permutation + Drop, H: ChainingHash + Drop> HeaderDigest for Chained<P, 
             x,
             y,
             held,
-            len,
         } = self;
-        let block = complete(&held[0..len], &PADDING);
+        let block = complete(held.as_slice(), &PADDING);
         let last = permutation.encrypt(xor(hash.hash(x), block));
         xor(hash.hash(y), last)
     }

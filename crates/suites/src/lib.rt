@@ -2,6 +2,7 @@
 #![tactic(auto)]
 
 pub mod chained;
+pub mod listed;
 pub mod mirror;
 pub mod numbers;
 pub mod shaft;

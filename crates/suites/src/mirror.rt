@@ -50,15 +50,13 @@ impl Suite for Mirror {
 
     type HeaderDigest = Chained<Reversal, Identity>;
 
-    ghost number = { 4 };
+    ghost NUMBER = { 4 };
+
+    const NUMBER: u8 = 4;
 
     ghost under = { mirror };
 
     ghost lawful = { mirror_lawful };
-
-    fn number() -> u8 {
-        4
-    }
 
     fn encode(n: u64) -> [u8; 16] {
         big_endian(n)

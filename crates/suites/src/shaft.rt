@@ -57,15 +57,13 @@ impl Suite for Shaft {
 
     type HeaderDigest = Chained<Aes128, Aes128>;
 
-    ghost number = { 1 };
+    ghost NUMBER = { 1 };
+
+    const NUMBER: u8 = 1;
 
     ghost under = { shaft };
 
     ghost lawful = { shaft_lawful };
-
-    fn number() -> u8 {
-        1
-    }
 
     fn encode(n: u64) -> [u8; 16] {
         big_endian(n)

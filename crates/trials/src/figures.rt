@@ -40,8 +40,7 @@ fn digest_of_nothing(rt: HostRuntime) {
 
 #[test]
 fn seals(rt: HostRuntime) -> Result<(), Fail> {
-    for i in 0..3usize {
-        let figure = &FIGURES[i];
+    for figure in &FIGURES {
         let mut out = [0xee; 20];
         let mut tag = [0xee; 16];
         let n = seal::<Mirror>(&KEY, &[], figure.message, &mut out, &mut tag)?;
@@ -58,8 +57,7 @@ fn seals(rt: HostRuntime) -> Result<(), Fail> {
 
 #[test]
 fn opens(rt: HostRuntime) -> Result<(), Fail> {
-    for i in 0..3usize {
-        let figure = &FIGURES[i];
+    for figure in &FIGURES {
         let mut out = [0xee; 20];
         let n = open::<Mirror>(&KEY, &[], figure.ciphertext, &figure.tag, &mut out)?;
         assert_eq!(rt; n, figure.message.len());

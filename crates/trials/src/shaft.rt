@@ -13,8 +13,7 @@ const MESSAGE: [u8; 37] = *b"two door rollers, one guide shoe, oil";
 
 #[test]
 fn seals(rt: HostRuntime) -> Result<(), Fail> {
-    for i in 0..8usize {
-        let v = &VECTORS[i];
+    for v in &VECTORS {
         let mut out = [0xee; 50];
         let mut tag = [0xee; 16];
         let n = seal(1, &v.key, v.header, v.message, &mut out, &mut tag)?;
@@ -31,8 +30,7 @@ fn seals(rt: HostRuntime) -> Result<(), Fail> {
 
 #[test]
 fn opens(rt: HostRuntime) -> Result<(), Fail> {
-    for i in 0..8usize {
-        let v = &VECTORS[i];
+    for v in &VECTORS {
         let mut out = [0xee; 50];
         let n = open(1, &v.key, v.header, v.ciphertext, &v.tag, &mut out)?;
         assert_eq!(rt; n, v.message.len());

@@ -1,5 +1,5 @@
 -- One piece of a delivery: where its bytes end, and its length ahead of it.
-use Rattle.std.proofs.Common.{◌≡◌, ℕ, ◌+◌, ◌*◌, ◌/◌, ◌%◌, ◌<◌, ◌≤◌, List, [], ◌∷◌, ◌++◌, length, get_or, take, drop, Some, None, Option, sym, refl, ap, ◌∙◌, arith, Bor}
+use Rattle.std.proofs.Common.{◌≡◌, ℕ, ◌+◌, ◌*◌, ◌/◌, ◌%◌, ◌<◌, ◌≤◌, List, [], ◌∷◌, ◌++◌, length, get_or, take, drop, Some, None, Option, sym, refl, ap, ap₂, ◌∙◌, arith, Bor, ◌≢◌, length-append, length-take-le, take-append-drop}
 use Rattle.std.proofs.lemmas.List.{append_assoc, get_or_append_left, take_at, drop_at}
 use Rattle.wire.specs.Wire.{two, four, Taken}
 
@@ -12,6 +12,13 @@ separate n s t a b h k e = (
   sym (take_at s a n h) ∙ ap (take n) e ∙ take_at t b n k,
   sym (drop_at s a n h) ∙ ap (drop n) e ∙ drop_at t b n k,
 )
+
+-- the first n bytes and the rest, where there are as many
+pub chunk : (n : ℕ) (b rest i : List ℕ) → b ≡ take n i → rest ≡ drop n i → n ≤ length i → (length b ≡ n) × (b ++ rest ≡ i)
+chunk n b rest i be re h = (ap length be ∙ length-take-le n i h, ap₂ ◌++◌ be re ∙ take-append-drop n i)
+
+pub no_chunk : (n : ℕ) (i : List ℕ) → length i < n → (s rest : List ℕ) → length s ≡ n → s ++ rest ≢ i
+no_chunk n i h s rest l e = omega (arith, length-append s rest, ap length e)
 
 -- each number of the list is a byte
 abbrev pub Bytes : List ℕ → Type 0

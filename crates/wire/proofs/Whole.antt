@@ -1,5 +1,5 @@
 -- A whole delivery: its parts one after the other, and that no two have the same bytes.
-use Rattle.std.proofs.Common.{◌≡◌, ℕ, ◌≤◌, List, [], ◌∷◌, ◌++◌, length, get_or, Some, None, Option, sym, refl, ap, ◌∙◌, arith}
+use Rattle.std.proofs.Common.{◌≡◌, ℕ, ◌≤◌, List, [], ◌∷◌, ◌++◌, length, Some, None, Option, sym, refl, ap, ◌∙◌}
 use Rattle.std.specs.Option.{ok_or}
 use Rattle.fault.specs.declared.kinds.ConsoleFault.{ConsoleFault}
 use Rattle.fault.specs.declared.kinds.Placed.{Placed}
@@ -18,8 +18,8 @@ abbrev pub after_suite : Parts → List ℕ
 after_suite p = p.key ++ after_key p
 
 -- the parts, as they were cut from the input
-pub suite_cut : (p : Parts) {s r i : List ℕ} → (length s ≡ 1) × (s ++ r ≡ i) → wire p ≡ i → (p.suite ∷ [] ≡ s) × (after_suite p ≡ r)
-suite_cut p {s} {r} t e = separate 1 (p.suite ∷ []) s (after_suite p) r refl t.0 (e ∙ sym t.1)
+pub suite_cut : (p : Parts) {x : ℕ} {r i : List ℕ} → i ≡ x ∷ r → wire p ≡ i → after_suite p ≡ r
+suite_cut p {x} {r} t e = (separate 1 (p.suite ∷ []) (x ∷ []) (after_suite p) r refl refl (e ∙ t)).1
 
 pub key_cut : (p : Parts) {s r i : List ℕ} → Limits p → (length s ≡ 16) × (s ++ r ≡ i) → after_suite p ≡ i → (p.key ≡ s) × (after_key p ≡ r)
 key_cut p {s} {r} l t e = separate 16 p.key s (after_key p) r l.key_long t.0 (e ∙ sym t.1)
@@ -33,23 +33,17 @@ ciphertext_cut p {s} {r} l t e = ahead_separate four_coded p.ciphertext s p.tag 
 -- no two deliveries have the same bytes
 pub unique : (p q : Parts) → Limits p → Limits q → wire p ≡ wire q → p ≡ q
 unique p q l m e =
-    let a = suite_cut p {s = q.suite ∷ []} {r = after_suite q} (refl, refl) e in
+    let a = separate 1 (p.suite ∷ []) (q.suite ∷ []) (after_suite p) (after_suite q) refl refl e in
     let b = key_cut p {s = q.key} {r = after_key q} l (m.key_long, refl) a.1 in
     let c = header_cut p {s = q.header} {r = after_header q} l (m.header_most, refl) b.1 in
     let d = ciphertext_cut p {s = q.ciphertext} {r = q.tag} l (m.ciphertext_most, refl) c.1 in
     let s : p.suite ≡ q.suite = cc in
     λ i. record { suite = s i; key = b.0 i; header = c.0 i; ciphertext = d.0 i; tag = d.1 i }
 
-single : (s : List ℕ) → length s ≡ 1 → get_or s 0 0 ∷ [] ≡ s
-single [] l = absurd (omega arith)
-single (x ∷ []) l = refl
-single (x ∷ y ∷ s) l = absurd (omega arith)
-
 -- the cuts one after the other give the bytes of the parts
-pub joined : (s key header ciphertext tag : List ℕ) {r1 r2 r3 i : List ℕ} → (length s ≡ 1) × (s ++ r1 ≡ i) → key ++ r2 ≡ r1 → two_ahead header ++ r3 ≡ r2 → four_ahead ciphertext ++ tag ≡ r3 → get_or s 0 0 ∷ (key ++ (two_ahead header ++ (four_ahead ciphertext ++ tag))) ≡ i
-joined s key header ciphertext tag {r1} a b c d =
-    ap (λ z. get_or s 0 0 ∷ (key ++ (two_ahead header ++ z))) d ∙ ap (λ z. get_or s 0 0 ∷ (key ++ z)) c ∙ ap (λ z. get_or s 0 0 ∷ z) b
-    ∙ ap (λ z. z ++ r1) (single s a.0) ∙ a.1
+pub joined : (x : ℕ) (key header ciphertext tag : List ℕ) {r1 r2 r3 i : List ℕ} → i ≡ x ∷ r1 → key ++ r2 ≡ r1 → two_ahead header ++ r3 ≡ r2 → four_ahead ciphertext ++ tag ≡ r3 → x ∷ (key ++ (two_ahead header ++ (four_ahead ciphertext ++ tag))) ≡ i
+joined x key header ciphertext tag a b c d =
+    ap (λ z. x ∷ (key ++ (two_ahead header ++ z))) d ∙ ap (λ z. x ∷ (key ++ z)) c ∙ ap (λ z. x ∷ z) b ∙ sym a
 
 -- with the refusal's place, and that the delivery is the only one
 pub parsed : (input : List ℕ) (e : Placed ConsoleFault) (o : Option Delivery) → e ≡ malformed (length input) → Found input o → Parsed input (ok_or o e)

@@ -28,10 +28,7 @@ pub struct Delivery<'a> {
 fn cut(input: &[u8], n: usize) -> Option<(&[u8], &[u8])>
     ensures { Taken (λ s. length s ≡ n) (λ s. s) input.now result }
 {
-    if input.len() < n {
-        return None;
-    }
-    Some(input.split_at(n))
+    input.split_at_checked(n)
 }
 
 // The same, if n is within a limit.
@@ -45,28 +42,28 @@ fn cut_within(input: &[u8], n: usize, most: usize) -> Option<(&[u8], &[u8])>
 }
 
 // The header after its length, and the rest.
+//
+// Kept beside the next: one for both would take the number's type, its width and the limit, and be longer than the two.
 fn cut_header(input: &[u8]) -> Option<(&[u8], &[u8])>
     ensures { Taken (λ s. length s ≤ 4096) two_ahead input.now result }
 {
-    let (b, rest) = cut(input, 2)?;
-    let n = u16::from_be_bytes([b[0], b[1]]) as usize;
-    cut_within(rest, n, HEADER_MOST)
+    let (length, rest) = input.split_first_chunk::<2>()?;
+    cut_within(rest, usize::from(u16::from_be_bytes(*length)), HEADER_MOST)
 }
 
 // The ciphertext after its length, and the rest.
 fn cut_ciphertext(input: &[u8]) -> Option<(&[u8], &[u8])>
     ensures { Taken (λ s. length s ≤ 16384) four_ahead input.now result }
 {
-    let (b, rest) = cut(input, 4)?;
-    let n = u32::from_be_bytes([b[0], b[1], b[2], b[3]]) as usize;
-    cut_within(rest, n, CIPHERTEXT_MOST)
+    let (length, rest) = input.split_first_chunk::<4>()?;
+    cut_within(rest, u32::from_be_bytes(*length) as usize, CIPHERTEXT_MOST)
 }
 
 // The delivery, if the input is one.
 fn read(input: &[u8]) -> Option<Delivery<'_>>
     ensures { Found input.now result }
 {
-    let (suite, rest) = cut(input, 1)?;
+    let (suite, rest) = input.split_first()?;
     let (key, rest) = cut(rest, KEY_LEN)?;
     let (header, rest) = cut_header(rest)?;
     let (ciphertext, tag) = cut_ciphertext(rest)?;
@@ -74,7 +71,7 @@ fn read(input: &[u8]) -> Option<Delivery<'_>>
         return None;
     }
     Some(Delivery {
-        suite: suite[0],
+        suite: *suite,
         key,
         header,
         ciphertext,

@@ -1,7 +1,10 @@
-use Rattle.std.proofs.Common.{rules}
-use Rattle.aes.specs.State.{sub_bytes}
+use Rattle.std.proofs.Common.{◌+◌, ◌*◌, rules, arith}
+use Rattle.field.specs.Substitution.{sub}
+use Rattle.aes.specs.State.{byte_at, sub_bytes}
+use Rattle.aes.proofs.Blocks.{placed}
 use Rattle.aes.proofs.steps.sub_bytes.Goals as goal
 
 pub returns : goal.returns
 unfolding sub_bytes
-returns c = search rules
+returns c =
+    placed c.map.result (λ r q. sub (byte_at c.args.s r q)) c.map.ensures.items.long (λ r q hr hq. let m = (c.map.ensures.items.at (r + 4 * q) 0 0 (omega arith)).2 in search rules)

@@ -4,4 +4,4 @@ use Rattle.reading.proofs.Opened.{played}
 use Rattle.reading.proofs.play.play.Goals as goal
 
 pub returns : goal.returns
-returns c = played (suite_of c.args.suite) c.args.suite _ _ _ _ _ _ _ _ c.args.asks.now _ (omega arith) c.in_ok-open_sheet.ensures c.in_ok-replies.ensures
+returns c = played (suite_of c.args.d.suite) c.args.d.suite _ _ _ _ _ _ _ _ c.args.asks.now _ (omega arith) c.in_ok-open_sheet.ensures c.in_ok-replies.ensures

@@ -1,13 +1,10 @@
-use Rattle.std.proofs.Common.{sym}
-use Rattle.sheet.specs.Table.{known_at}
-use Rattle.sheet.proofs.Maps.{all_none, all_more, all_stops}
+use Rattle.std.proofs.Common.{refl, rules}
+use borrow.Author.Tests.{tests}
+use Rattle.std.proofs.lemmas.Iterator.{YieldsList-from_range}
+use Rattle.std.proofs.lemmas.Iterator.Search.{all_from_yields_List}
+use Rattle.sheet.specs.Table.{all_below, known_at}
 use Rattle.sheet.proofs.map.only_known.Goals as goal
 
-pub loop-k-init : goal.loop-k-init
-loop-k-init c = all_none (known_at c.args.map)
-
-pub returns-then-not-known_at : goal.returns-then-not-known_at
-returns-then-not-known_at c = sym (all_stops (known_at c.args.map) 16 c.loop-k.k c.loop-k-test.true (sym c.if-not-known_at.ensures))
-
-pub loop-k-preserved : goal.loop-k-preserved
-loop-k-preserved c = all_more (known_at c.args.map) c.loop-k.k c.loop-k.invariant (sym c.if-not-known_at.ensures)
+pub returns : goal.returns
+unfolding all_below
+returns c = all_from_yields_List (known_at c.args.map) _ _ _ c.all.ensures.ran (YieldsList-from_range 0 16 16 refl refl) (λ x b q k. search (rules, tests))

@@ -1,9 +1,9 @@
-use Rattle.std.proofs.Common.{◌-◌, length}
+use Rattle.std.proofs.Common.{◌≡◌, ◌-◌, length}
 use Rattle.sheet.proofs.Decoding.{Sofar}
 use Rattle.sheet.proofs.whole.test.Given as goal
 
-abbrev pub invariant-loop-next : goal.invariant-loop-next
-invariant-loop-next l = Sofar l.sheet l.place l.count
+abbrev pub invariant-loop-count : goal.invariant-loop-count
+invariant-loop-count l = (l.reader.sheet.now ≡ l.initial.sheet) × Sofar l.initial.sheet l.reader.place l.count
 
-abbrev pub decreases-loop-next : goal.decreases-loop-next
-decreases-loop-next l = length l.initial.sheet - l.place
+abbrev pub decreases-loop-count : goal.decreases-loop-count
+decreases-loop-count l = length l.reader.sheet.now - l.reader.place

@@ -1,10 +1,12 @@
-use Rattle.wire.proofs.Pieces.{no_length, told, two_coded}
+use Rattle.std.proofs.Common.{arith}
+use Rattle.wire.proofs.Pieces.{chunk, no_chunk, no_length, told, two_coded}
 use Rattle.wire.proofs.parse.cut_header.Goals as goal
 
-pub returns-in_err-b : goal.returns-in_err-b
-returns-in_err-b c = rw c.from_residual.ensures (no_length two_coded c.args.input.now c.in_err-b.ensures)
+pub returns-in_err-length : goal.returns-in_err-length
+returns-in_err-length c = rw c.from_residual.ensures (no_length two_coded c.args.input.now (no_chunk 2 c.args.input.now c.in_err-length.ensures.cases))
 
 pub returns : goal.returns
 returns c =
-    told two_coded c.in_ok-b.b.now c.in_ok-b.rest.now c.args.input.now c.from_be_bytes-n.result c.cut_within.result
-    c.in_ok-b.ensures (cc) (λ i. (c.type_inv.input i).fits) c.cut_within.ensures
+    let e = c.in_ok-length.ensures.cases in
+    told two_coded c.in_ok-length.length.now c.in_ok-length.rest.now c.args.input.now c.from.result c.cut_within.result
+    (chunk 2 _ _ c.args.input.now e.0 e.1 (omega (arith, e.2))) (cc) (λ i. (c.type_inv.input i).fits) c.cut_within.ensures

@@ -1,12 +1,17 @@
-use Rattle.std.proofs.Common.{ap, arith}
+use Rattle.std.proofs.Common.{[], ◌∷◌, ◌++◌, ◌∙◌, take, ap, rules}
 use Rattle.suites.specs.Chained.{chained}
 use Rattle.suites.proofs.Pushes.{held_more, row_more}
 use Rattle.suites.proofs.chained.Chained.push.Goals as goal
 
-pub returns-then-self-lt16 : goal.returns-then-self-lt16
-returns-then-self-lt16 g c =
-    λ r. ap (chained _ _ c.args.self.now.x c.args.self.now.y) (held_more c.args.self.now.held c.args.self.now.len c.args.b r (omega arith))
+pub returns-in-None : goal.returns-in-None
+returns-in-None g c =
+    λ r. ap (chained _ _ c.args.self.now.x c.args.self.now.y) (ap (λ h. h ++ r) c.extend.ensures ∙ held_more c.args.self.now.held c.args.b r c.in-None.ensures)
 
-pub returns : goal.returns
-returns g c =
-    λ r. row_more _ _ c.args.self.now.x c.args.self.now.y c.args.self.now.held _ _ _ c.args.self.now.len c.args.b r (omega arith) (omega arith) c.hash.ensures c.xor-x.ensures c.encrypt-self.ensures
+pub returns-in-Some : goal.returns-in-Some
+returns-in-Some g c =
+    λ r.
+    let s = c.args.self.now in
+    let k = c.in-Some.ensures in
+    let h = c.extend-in-Some.ensures ∙ ap (λ n. take 16 (n ++ c.args.b ∷ [])) c.new-self.ensures in
+    ap (λ h. chained (g.P.Permutation.enc s.permutation) (g.H.ChainingHash.chain s.hash) c.xor-x.result c.encrypt-self.result (h ++ r)) h
+    ∙ row_more _ _ s.x s.y s.held _ _ _ c.args.b r k.1 c.hash.ensures (search rules) c.encrypt-self.ensures

@@ -19,5 +19,5 @@ returns c =
       enc = ap cipher (k c.under-3.result c.under-3.ensures);
       dec = ap inv_cipher (k c.under-3.result c.under-3.ensures);
       chain = ap cipher (f c.under-4.result c.under-4.ensures);
-      dig = digests c.new-digest.result.held _ _ _ _ _ _ _ _ (ap keys d.parts.0 ∙ k c.under.result c.under.ensures) (ap keys d.parts.1 ∙ f c.under-2.result c.under-2.ensures) (d.rows.0 ∙ first) (d.rows.1 ∙ first) d.rows.2;
+      dig = digests c.new-digest.result.held _ _ _ _ _ _ _ (ap keys d.parts.0 ∙ k c.under.result c.under.ensures) (ap keys d.parts.1 ∙ f c.under-2.result c.under-2.ensures) (d.rows.0 ∙ first) (d.rows.1 ∙ first) d.rows.2;
     }

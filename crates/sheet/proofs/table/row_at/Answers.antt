@@ -1,6 +1,6 @@
 use Rattle.std.proofs.Common.{rules}
 use Rattle.sheet.specs.Table.{row_of}
-use Rattle.sheet.proofs.table.row_of.Goals as goal
+use Rattle.sheet.proofs.table.row_at.Goals as goal
 
 pub returns : goal.returns
 unfolding row_of
