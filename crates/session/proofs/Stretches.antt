@@ -62,9 +62,9 @@ module _ (e c : List ℕ → List ℕ) (s : State) (M P u : List ℕ) (n : ℕ) 
         ap₂ (λ a b. a ++ b) ge R.front ∙ sym (ap (λ (z : State). z.out) q),
       )
 
-  pub left : (h : List ℕ) (k : ℕ) → k + 16 * whole (M ++ P) ≡ length (M ++ P) → take k h ≡ take k (drop (16 * n) u) → take k h ≡ drop (16 * whole (M ++ P)) (M ++ P)
-  left h k ke he =
+  pub left : (h : List ℕ) → h ≡ take 16 (drop (16 * n) u) → h ≡ drop (16 * whole (M ++ P)) (M ++ P)
+  left h he =
       let l : 16 * whole M ≤ length M = omega arith in
       let d : drop (16 * n) u ≡ drop (16 * whole (M ++ P)) (M ++ P) =
       ap (drop (16 * n)) (ue ∙ sym (drop-append-le (16 * whole M) M P l)) ∙ drop-drop (16 * n) (16 * whole M) (M ++ P) ∙ ap (λ j. drop j (M ++ P)) (omega arith) in
-      he ∙ ap (take k) d ∙ take_all k (drop (16 * whole (M ++ P)) (M ++ P)) (omega (arith, length-drop (16 * whole (M ++ P)) (M ++ P)))
+      he ∙ ap (take 16) d ∙ take_all 16 (drop (16 * whole (M ++ P)) (M ++ P)) (omega (arith, length-drop (16 * whole (M ++ P)) (M ++ P)))

@@ -50,7 +50,7 @@ pub record SessionAt {A W B C D : Type 0} {u : suite.Ghosts A B C D} {p : permut
   pub x_is : s.lanes.taking ≡ (rows_of w.way (u.under R.key) R).x
   pub y_is : s.lanes.giving ≡ (rows_of w.way (u.under R.key) R).y
   pub out_is : R.out ≡ (rows_of w.way (u.under R.key) R).out
-  pub held_is : take s.len s.held ≡ drop (16 * whole R.body) R.body
+  pub held_is : s.held ≡ drop (16 * whole R.body) R.body
   pub total_is : s.total ≡ length R.body
 
 -- A header call brings `more` bytes to `taken`.

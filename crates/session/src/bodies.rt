@@ -3,7 +3,6 @@ ghost use Rattle.std.specs.Prelude.{◌≤◌, length, IfOk};
 ghost use Rattle.session.specs.Runs.{Run};
 ghost use Rattle.session.specs.Sessions.{BodyBy, SessionAt, body_check, held};
 
-use crate::blocks::joined;
 use crate::checks::BODY_MOST;
 use crate::rows::Way;
 use crate::types::{Given, Session};
@@ -23,7 +22,7 @@ impl<S: Suite, W: Way> Session<S, W> {
                 place: self.total,
             });
         }
-        let t = self.len + input.len();
+        let t = self.held.as_slice().len() + input.len();
         let n = t.saturating_sub(1) / 16;
         let written = 16 * n;
         if out.len() < written {
@@ -34,11 +33,11 @@ impl<S: Suite, W: Way> Session<S, W> {
         }
         self.lanes = self
             .engine
-            .run::<W>(self.lanes, &self.held, self.len, input, out, n);
-        let held = t - written;
-        self.held = joined(&self.held, self.len, input, written, held);
-        self.len = held;
+            .run::<W>(self.lanes, &mut self.held, input, out, n);
         self.total += input.len();
-        Ok(Given { written, held })
+        Ok(Given {
+            written,
+            held: t - written,
+        })
     }
 }

@@ -33,12 +33,13 @@ impl<S: Suite> Sealing<S> {
             });
         }
         let mask = self.engine.mask(self.total);
-        let block = complete(&self.held[..self.len], &self.engine.tau);
+        let held = self.held.as_slice();
+        let block = complete(held, &self.engine.tau);
         let (end, given) = self.engine.last_row::<Seal>(self.lanes, mask, block);
         let z = self.engine.closing(end.taking, end.giving);
-        *last = complete(&given[..self.len], &[0; 16]);
-        *tag = complete(&given[self.len..], &z);
-        Ok(self.len)
+        *last = complete(&given[..held.len()], &[0; 16]);
+        *tag = complete(&given[held.len()..], &z);
+        Ok(held.len())
     }
 }
 
@@ -48,11 +49,12 @@ impl<S: Suite> Opening<S> {
         ensures { (R : Run) → SessionAt R self.now → Tested (S.Suite.under R.key) R.header R.body tag.now (rows_of opening (S.Suite.under R.key) R).out result }
     {
         let mask = self.engine.mask(self.total);
-        let block = complete(&self.held[..self.len], tag);
+        let held = self.held.as_slice();
+        let block = complete(held, tag);
         let (end, given) = self.engine.last_row::<Open>(self.lanes, mask, block);
         let z = self.engine.closing(end.giving, end.taking);
-        let padded = same(&given, &complete(&given[..self.len], &self.engine.tau));
-        let tagged = same(tag, &complete(&tag[..16 - self.len], &z));
+        let padded = same(&given, &complete(&given[..held.len()], &self.engine.tau));
+        let tagged = same(tag, &complete(&tag[..16 - held.len()], &z));
         (padded & tagged).then_some(given)
     }
 
@@ -76,7 +78,8 @@ impl<S: Suite> Opening<S> {
                 place: self.total,
             });
         };
-        *last = complete(&given[..self.len], &[0; 16]);
-        Ok(self.len)
+        let len = self.held.as_slice().len();
+        *last = complete(&given[..len], &[0; 16]);
+        Ok(len)
     }
 }

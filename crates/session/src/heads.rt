@@ -8,6 +8,7 @@ use crate::engine::Engine;
 use crate::keys::KeyPlace;
 use crate::rows::Way;
 use crate::types::{Heading, Opening, Sealing, Session};
+use buffer::Buffer;
 use fault::kinds::{Placed, SessionFault};
 use poet::xor;
 use std::marker::PhantomData;
@@ -84,8 +85,7 @@ impl<S: Suite> Heading<S> {
                 tau,
             },
             lanes,
-            held: [0; 16],
-            len: 0,
+            held: Buffer::new(),
             total: 0,
             way: PhantomData,
         }

@@ -1,14 +1,14 @@
 // The rows: one code for sealing, which goes through them with E from X to Y, and for opening, which goes with D from Y to X.
-ghost use Rattle.std.specs.Prelude.{◌≡◌, ℕ, ◌+◌, ◌*◌, ◌≤◌, List, ◌++◌, length, take};
+ghost use Rattle.std.specs.Prelude.{◌≡◌, ℕ, ◌+◌, ◌*◌, ◌≤◌, List, ◌++◌, length, take, drop};
 ghost use Rattle.poet.specs.Functions.{Functions};
 ghost use Rattle.poet.specs.Rows.{size, zed};
 ghost use Rattle.session.specs.Directions.{Direction, opening, picks, sealing, turns};
 ghost use Rattle.session.specs.Engines.{EngineAt};
 ghost use Rattle.session.specs.Steps.{Ended, Ran, Stepped, lanes};
 
-use crate::blocks::joined_block;
 use crate::engine::Engine;
-use poet::xor;
+use buffer::Buffer;
+use poet::{complete, xor};
 use suite::{ChainingHash, Permutation, Suite};
 
 // A way through the rows. It is public because the types of sessions name it, but this module is not: nothing outside implements it.
@@ -92,28 +92,35 @@ impl<S: Suite> Engine<S> {
         (Lanes { taking, giving }, given)
     }
 
-    // n rows over the front of the bytes held and the input behind them; what they give goes to the front of `out`.
+    // n rows over the bytes held and the input behind them; what they give goes to the front of `out`, and the bytes that they leave are
+    // held, as many as there is room for.
     pub(crate) fn run<W: Way>(
         &self,
         lanes: Lanes,
-        held: &[u8; 16],
-        len: usize,
+        held: &mut Buffer<16>,
         input: &[u8],
         out: &mut [u8],
         n: usize,
     ) -> Lanes
-        requires few { len ≤ 16 }
-        requires within { 16 * n ≤ len + length input.now }
+        requires within { 16 * n ≤ length held.old + length input.now }
         requires room { 16 * n ≤ length out.old }
-        ensures { (f : Functions) (H : List ℕ) → EngineAt S.Permutation.Permutation S.ChainingHash.ChainingHash f H self.now → Ran (picks W.Way.way f.enc f.dec) f.chain lanes.taking lanes.giving (take len held.now ++ input.now) out.old n result.taking result.giving out.new }
+        ensures ran { (f : Functions) (H : List ℕ) → EngineAt S.Permutation.Permutation S.ChainingHash.ChainingHash f H self.now → Ran (picks W.Way.way f.enc f.dec) f.chain lanes.taking lanes.giving (held.old ++ input.now) out.old n result.taking result.giving out.new }
+        ensures left { held.new ≡ take 16 (drop (16 * n) (held.old ++ input.now)) }
     {
         let mut lanes = lanes;
+        let mut input = input;
         for i in 0..n {
-            let at = 16 * i;
-            let (next, given) = self.row::<W>(lanes, joined_block(held, len, input, at));
+            let more = 16 - held.as_slice().len();
+            held.extend(input);
+            input = &input[more..];
+            let block = complete(held.as_slice(), &[0; 16]);
+            *held = Buffer::new();
+            let (next, given) = self.row::<W>(lanes, block);
             lanes = next;
+            let at = 16 * i;
             out[at..at + 16].copy_from_slice(&given);
         }
+        held.extend(input);
         lanes
     }
 

@@ -1,8 +1,9 @@
 // The states of a session, each moved into the next.
-ghost use Rattle.std.specs.Prelude.{◌≡◌, ◌+◌, ◌-◌, ◌*◌, ◌/◌, ◌≤◌};
+ghost use Rattle.std.specs.Prelude.{◌≡◌, ◌+◌, ◌-◌, ◌*◌, ◌/◌, ◌≤◌, length};
 
 use crate::engine::Engine;
 use crate::rows::{Lanes, Open, Seal, Way};
+use buffer::Buffer;
 use std::marker::PhantomData;
 use suite::Suite;
 
@@ -22,12 +23,11 @@ pub struct Heading<S: Suite> {
 pub struct Session<S: Suite, W: Way> {
     pub(crate) engine: Engine<S>,
     pub(crate) lanes: Lanes,
-    pub(crate) held: [u8; 16],
-    pub(crate) len: usize,
+    pub(crate) held: Buffer<16>,
     pub(crate) total: usize,
     pub(crate) way: PhantomData<W>,
     ghost within: { total ≤ 1048576 },
-    ghost split: { len + 16 * ((total - 1) / 16) ≡ total },
+    ghost split: { length held + 16 * ((total - 1) / 16) ≡ total },
 }
 
 // How many bytes a body call wrote, and how many are held back after it.
