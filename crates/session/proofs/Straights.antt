@@ -1,44 +1,50 @@
 -- One session over whole buffers, from what its calls tell.
-use Rattle.std.proofs.Common.{◌≡◌, ℕ, ◌-◌, ◌*◌, ◌/◌, ◌≤◌, List, ◌++◌, length, take, drop, Ok, Err, Result, sym, ◌∙◌, subst, ap₂, arith, length-take}
+use Rattle.std.proofs.Common.{◌≡◌, ℕ, ◌+◌, ◌-◌, ◌≤◌, List, ◌++◌, length, take, drop, Ok, Err, Result, sym, ap, ◌∙◌, subst, ap₂, arith, length-take}
+use borrow.Rule.Slice.PartMut.{put_mid}
+use Rattle.std.proofs.lemmas.List.{drop-drop}
+use Rattle.std.proofs.lemmas.Slice.{take-put_mid, drop-put_mid}
 use Rattle.fault.specs.declared.kinds.SessionFault.{SessionFault}
 use Rattle.fault.specs.declared.kinds.Placed.{Placed}
 use Rattle.poet.specs.Functions.{Functions}
 use Rattle.poet.specs.Seal.{Seals}
+use Rattle.session.specs.Calls.{Sealed, Opened}
 use Rattle.session.specs.Sessions.{held, writes, SealFinished, OpenJudged}
-use Rattle.session.specs.Straight.{run, Cut, handed, SealRun, OpenRun}
+use Rattle.session.specs.Straight.{run, OpenRefusal}
 
 pub ok_same : {X F : Type 0} {x y : X} → ◌≡◌ {A = Result X F} (Ok x) (Ok y) → x ≡ y
 ok_same p = cc
 
-module _ (b H a o o' : List ℕ) (some : 1 ≤ length a) (room : length a ≤ length o) (same : length o' ≡ length o) where
-  gave : length (take (writes (length a)) o') ≡ writes (length a)
-  gave = length-take (writes (length a)) o' ∙ omega arith
+-- lists that are the same from n on are so from k on
+pub past_front : (n k : ℕ) (a b : List ℕ) → n ≤ k → drop n a ≡ drop n b → drop k a ≡ drop k b
+past_front n k a b l e =
+    let j : n + (k - n) ≡ k = omega arith in
+    ap (λ i. drop i a) (sym j) ∙ sym (drop-drop (k - n) n a) ∙ ap (drop (k - n)) e ∙ drop-drop (k - n) n b ∙ ap (λ i. drop i b) j
 
+-- the run took the body a, and its body call wrote the front of o₁ over o
+module _ (key H a o o₁ : List ℕ) (some : 1 ≤ length a) (room : length a ≤ length o) (same : length o₁ ≡ length o) where
   -- the bytes held back at the end
-  rests : held (run b H a o') ≡ length a - writes (length a)
-  rests = let g = gave in omega arith
+  pub rests : held (run key H a o₁) ≡ length a - writes (length a)
+  rests = let g : length (take (writes (length a)) o₁) ≡ writes (length a) = length-take (writes (length a)) o₁ ∙ omega arith in omega arith
 
-  module _ (given : ℕ) (p : given ≡ writes (length a)) (d : drop (writes (length a)) o' ≡ drop (writes (length a)) o) where
-    cut : (len : ℕ) (last : List ℕ) → len ≡ held (run b H a o') → Cut a o o' (record { given = given; len = len; last = last })
-    cut len last l =
-        let g = p in
+  -- the last bytes, written behind those that the body call wrote
+  module _ (n : ℕ) (ne : n ≡ writes (length a)) (rest : drop (writes (length a)) o₁ ≡ drop (writes (length a)) o) (len : ℕ) (last w : List ℕ) (le : len ≡ held (run key H a o₁)) (ll : length last ≡ 16) (we : w ≡ take len last) where
+    front : (run key H a o₁).out ++ take (held (run key H a o₁)) last ≡ take (length a) (put_mid n (n + len - n) o₁ w)
+    front =
         let h = rests in
-        record { given = omega arith; len = omega arith; few = omega arith; rest = rw g d }
+        let wl : length w ≡ len = ap length we ∙ length-take len last ∙ omega arith in
+        sym (take-put_mid n (n + len - n) o₁ w (length a) (omega arith) (omega arith) ∙ ap₂ (λ i z. take i o₁ ++ z) ne (we ∙ ap (λ i. take i last) le))
 
-    handed_is : (len : ℕ) (last : List ℕ) → len ≡ held (run b H a o') → (run b H a o').out ++ take (held (run b H a o')) last ≡ handed o' (record { given = given; len = len; last = last })
-    handed_is len last l = ap₂ (λ i j. take i o' ++ take j last) (sym p) (sym l)
+    behind : drop (length a) (put_mid n (n + len - n) o₁ w) ≡ drop (length a) o
+    behind =
+        let h = rests in
+        let wl : length w ≡ len = ap length we ∙ length-take len last ∙ omega arith in
+        drop-put_mid n (n + len - n) o₁ w (length a) (omega arith) (omega arith) (omega arith) ∙ past_front (writes (length a)) (length a) o₁ o (omega arith) rest
 
-    pub seal_run : (f : Functions) (t' last : List ℕ) (len : ℕ) → SealFinished f (run b H a o') last t' (Ok len) → SealRun f H a o o' t' (Ok (record { given = given; len = len; last = last }))
-    seal_run f t' last len s =
-        let l = ok_same s.answer in
-        (cut len last l, subst (λ (u : List ℕ). Seals f H a u t') (handed_is len last l) s.seals)
+    pub seal_run : (f : Functions) (t' : List ℕ) (r : Result ℕ (Placed SessionFault)) → SealFinished f (run key H a o₁) last t' r → Sealed f H a o (put_mid n (n + len - n) o₁ w) t'
+    seal_run f t' r s = record { seals = subst (λ (u : List ℕ). Seals f H a u t') front s.seals; rest = behind }
 
-    pub open_run : (f : Functions) (T last : List ℕ) (len : ℕ) → OpenJudged f (run b H a o') T last (Ok len) → OpenRun f H a T o o' (Ok (record { given = given; len = len; last = last }))
-    open_run f T last len s =
-        let h = handed_is len last s.0 in
-        (cut len last s.0, subst (λ (u : List ℕ). Seals f H u a T) h s.1.seals, λ M q. s.1.only M q ∙ h)
+    pub open_run : (f : Functions) (T : List ℕ) (m : ℕ) → OpenJudged f (run key H a o₁) T last (Ok m) → Opened f H a T o (put_mid n (n + len - n) o₁ w)
+    open_run f T m s = record { seals = subst (λ (u : List ℕ). Seals f H u a T) front s.1.seals; only = λ M q. s.1.only M q ∙ front; rest = behind }
 
-  pub refused_run : (f : Functions) (T last : List ℕ) (e : Placed SessionFault) → drop (writes (length a)) o' ≡ drop (writes (length a)) o → OpenJudged f (run b H a o') T last (Err e) → OpenRun f H a T o o' (Err e)
-  refused_run f T last e d s =
-      let w : writes (length a) ≡ 16 * ((length a - 1) / 16) = omega arith in
-      record { fault = s.fault; none = s.none; rest = subst (λ (n : ℕ). drop n o' ≡ drop n o) w d }
+pub refused_run : (f : Functions) (key H a o o₁ T last : List ℕ) (e : Placed SessionFault) → drop (writes (length a)) o₁ ≡ drop (writes (length a)) o → OpenJudged f (run key H a o₁) T last (Err e) → OpenRefusal f H a T o o₁ e
+refused_run f key H a o o₁ T last e d s = record { fault = s.fault; none = s.none; rest = d }
