@@ -4,7 +4,7 @@ use Rattle.std.specs.List.{fold, zip}
 use lib.Bits.{bit_or, bit_xor, or_add_and, and_le_l, and_le_r, xor_self, xor_zero_l, xor_zero_r, xor_assoc}
 
 -- a difference that is still zero: it was, and the next two bytes are equal
-pub differs_none : (d x y : ℕ) → bit_or d (bit_xor x y) ≡ 0 → (d ≡ 0) × (x ≡ y)
+differs_none : (d x y : ℕ) → bit_or d (bit_xor x y) ≡ 0 → (d ≡ 0) × (x ≡ y)
 differs_none d x y e =
     let o = or_add_and d (bit_xor x y) in
     let l = and_le_l d (bit_xor x y) in
@@ -12,7 +12,7 @@ differs_none d x y e =
     let z : bit_xor x y ≡ 0 = omega arith in
     (omega arith, sym (xor_assoc x y y ∙ ap (bit_xor x) (xor_self y) ∙ xor_zero_r x) ∙ ap (λ n. bit_xor n y) z ∙ xor_zero_l y)
 
-pub differs_more : (d x y : ℕ) → d ≡ 0 → x ≡ y → bit_or d (bit_xor x y) ≡ 0
+differs_more : (d x y : ℕ) → d ≡ 0 → x ≡ y → bit_or d (bit_xor x y) ≡ 0
 differs_more d x y e f = rw (e, f, xor_self y)
 
 -- the differences of all bytes, one upon another

@@ -46,7 +46,7 @@ module _ (f : Functions) (L : Lawful f) (R : Run) (t : Taken R) (lim : Limits R.
         zeros = b.1;
       }
 
-  pub open_finished : (T : List ℕ) (tb : Block T) → R.out ≡ (rows_of opening f R).out → Tested f R.header R.body T (rows_of opening f R).out (Some g) → (len ≡ held R) × OpenFinished f R T l
+  open_finished : (T : List ℕ) (tb : Block T) → R.out ≡ (rows_of opening f R).out → Tested f R.header R.body T (rows_of opening f R).out (Some g) → (len ≡ held R) × OpenFinished f R T l
   open_finished T tb oe s =
       let O = opening_law f L R.header R.body T in
       let b = bytes opening oe in
@@ -61,7 +61,7 @@ module _ (f : Functions) (L : Lawful f) (R : Run) (t : Taken R) (lim : Limits R.
         },
       )
 
-pub open_refused : (f : Functions) (L : Lawful f) (R : Run) → Taken R → R.out ≡ (rows_of opening f R).out → Limits R.header R.body → (T G : List ℕ) → Tested f R.header R.body T G None → (l' : List ℕ) (e' : Placed SessionFault) → l' ≡ replicate 16 0
+open_refused : (f : Functions) (L : Lawful f) (R : Run) → Taken R → R.out ≡ (rows_of opening f R).out → Limits R.header R.body → (T G : List ℕ) → Tested f R.header R.body T G None → (l' : List ℕ) (e' : Placed SessionFault) → l' ≡ replicate 16 0
     → e' ≡ record { fault = Forged; place = length R.body } → OpenRefused f R T l' e'
 open_refused f L R t oe lim T G s l' e' z ee =
     let O = opening_law f L R.header R.body T in

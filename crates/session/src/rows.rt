@@ -109,6 +109,7 @@ impl<S: Suite> Engine<S> {
     {
         let mut lanes = lanes;
         let mut input = input;
+        // Kept: tried with chunks_exact_mut, after which a proof knows the length of `out`, and not its bytes.
         for i in 0..n {
             let more = 16 - held.as_slice().len();
             held.extend(input);
