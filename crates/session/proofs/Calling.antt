@@ -1,5 +1,5 @@
 -- What the calls of a session tell once their checks are passed.
-use Rattle.std.proofs.Common.{◌≡◌, ℕ, ◌+◌, ◌≤◌, false, eqb, ltb, List, length, Some, None, Ok, Err, Option, Result, refl, arith, le-ltb, ne_eqb}
+use Rattle.std.proofs.Common.{◌≡◌, ℕ, ◌+◌, ◌≤◌, false, eqb, ltb, List, length, Some, None, Ok, Option, Result, refl, arith, le-ltb, ne_eqb}
 use Rattle.fault.specs.declared.kinds.KeyFault.{KeyFault}
 use Rattle.fault.specs.declared.kinds.SessionFault.{SessionFault}
 use Rattle.fault.specs.declared.kinds.Placed.{Placed}
@@ -16,13 +16,9 @@ use Rattle.session.specs.Calls.{FillBy}
 use Rattle.session.specs.Runs.{Run, headed}
 use Rattle.session.specs.Sessions.{HeadingAt, header_check, HeaderBy, body_check, held, writes, BodyTaken, BodyBy, empty_check, SealFinished, SealedBy, end_check, OpenJudged, OpenedBy}
 
--- an answer is no refusal
-pub ok_err : {X F : Type 0} {x : X} {e : F} → ◌≡◌ {A = Result X F} (Ok x) (Err e) → ⊥
-ok_err p = let z : ◌≡◌ {A = ℕ} 0 1 = cc in omega arith
-
 pub fill_ok : (o : Option (Placed KeyFault)) (key b b' : List ℕ) → FillBy o key b b' (Ok tt) → (o ≡ None) × (b' ≡ key)
 fill_ok None key b b' f = (refl, f.1)
-fill_ok (Some e) key b b' f = absurd (ok_err f.0)
+fill_ok (Some e) key b b' f = absurd cc
 
 pub header_ok : {A B C D : Type 0} {u : suite.Ghosts A B C D} {p : permutation.Ghosts B} {h : hash.Ghosts C} {d : digest.Ghosts D} (R : Run) (P : List ℕ) (s s' : Heading A B C D u p h d) (r : Result (Unit {0}) (Placed SessionFault))
     → length R.header + length P ≤ 65536 → HeaderBy (header_check (length R.header) (length P)) R P s s' r → (r ≡ Ok tt) × HeadingAt (headed R P) s'

@@ -1,5 +1,5 @@
 -- One session over whole buffers, from what its calls tell.
-use Rattle.std.proofs.Common.{◌≡◌, ℕ, ◌+◌, ◌-◌, ◌≤◌, List, ◌++◌, length, take, drop, Ok, Err, Result, sym, ap, ◌∙◌, subst, ap₂, arith, length-take}
+use Rattle.std.proofs.Common.{◌≡◌, ℕ, ◌+◌, ◌-◌, ◌≤◌, List, ◌++◌, length, take, drop, Ok, Err, Result, sym, ap, ◌∙◌, subst, ap₂, arith, length-take, zero-add}
 use borrow.Rule.Slice.PartMut.{put_mid}
 use Rattle.std.proofs.lemmas.List.{drop-drop}
 use Rattle.std.proofs.lemmas.Slice.{take-put_mid, drop-put_mid}
@@ -8,11 +8,24 @@ use Rattle.fault.specs.declared.kinds.Placed.{Placed}
 use Rattle.poet.specs.Functions.{Functions}
 use Rattle.poet.specs.Seal.{Seals}
 use Rattle.session.specs.Calls.{Sealed, Opened}
-use Rattle.session.specs.Sessions.{held, writes, SealFinished, OpenJudged}
-use Rattle.session.specs.Straight.{run, OpenRefusal}
+use Rattle.suite.specs.declared.Suite as suite
+use Rattle.suite.specs.declared.Permutation as permutation
+use Rattle.suite.specs.declared.ChainingHash as hash
+use Rattle.suite.specs.declared.HeaderDigest as digest
+use Rattle.session.specs.declared.rows.Way as way
+use Rattle.session.specs.declared.types.Given.{Given}
+use Rattle.session.specs.declared.types.Session.{Session}
+use Rattle.session.specs.Runs.{fresh, headed}
+use Rattle.session.specs.Sessions.{held, writes, given_of, BodyTaken, SealFinished, OpenJudged}
+use Rattle.session.specs.Straight.{run, Begun, OpenRefusal}
 
-pub ok_same : {X F : Type 0} {x y : X} → ◌≡◌ {A = Result X F} (Ok x) (Ok y) → x ≡ y
-ok_same p = cc
+-- the header and the body were taken by a new session
+pub begun : {A W B C D : Type 0} {u : suite.Ghosts A B C D} {p : permutation.Ghosts B} {h : hash.Ghosts C} {d : digest.Ghosts D} {w : way.Ghosts W} (key H a o o' : List ℕ) (s : Session A W B C D u p h d w) (n : Given) → BodyTaken (headed (fresh key) H) a o o' s (Ok n)
+    → Begun key H a o o' s n.written
+begun key H a o o' s n t =
+    let z : 0 + length a ≡ length a = zero-add (length a) in
+    let e : n ≡ given_of (length a) = cc (rw z at t.answer) in
+    record { written_is = ap (λ (i : Given). i.written) e; rest = rw z at t.rest; at = rw z at t.at }
 
 -- lists that are the same from n on are so from k on
 pub past_front : (n k : ℕ) (a b : List ℕ) → n ≤ k → drop n a ≡ drop n b → drop k a ≡ drop k b
