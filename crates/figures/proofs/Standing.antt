@@ -10,7 +10,7 @@ use Rattle.suites.specs.Mirror.{mirror}
 use Rattle.suites.specs.Mirrors.{mirror_lawful}
 use Rattle.session.specs.declared.script.Answer.TheVariants.{Body}
 use Rattle.session.specs.Calls.{answered}
-use Rattle.session.specs.Sessions.{writes}
+use Rattle.session.specs.Sessions.{given_of}
 use Rattle.session.specs.Scripts.{held_of}
 use Rattle.sheet.specs.Table.{row_of}
 use Rattle.sheet.specs.Entries.{bytes}
@@ -30,10 +30,8 @@ doors_bytes : Bytes (bytes doors)
 unfolding Bytes
 doors_bytes = (lit< tt, (lit< tt, (lit< tt, (lit< tt, (lit< tt, (lit< tt, (lit< tt, (lit< tt, (lit< tt, (lit< tt, (lit< tt, (lit< tt, tt))))))))))))
 
-body_figure : (held brought : ℕ) → BodyFigure held brought (writes (held + brought)) (held + brought - writes (held + brought))
-body_figure held brought n s h b free =
-    let t : ℕ = held_of n + length s.bytes.now in
-    ap (λ o. Body (answered o (writes t, t - writes t))) free ∙ ap₂ (λ (x y : ℕ). Body (Ok (writes (x + y), x + y - writes (x + y)))) h b
+body_figure : (held brought : ℕ) → BodyFigure held brought (given_of (held + brought)).written (given_of (held + brought)).held
+body_figure held brought n s h b free = ap (λ o. Body (answered o (given_of (held_of n + length s.bytes.now)))) free ∙ ap₂ (λ (x y : ℕ). Body (Ok (given_of (x + y)))) h b
 
 pub figures : Figures
 unfolding ◌⊕◌ filled chain_x chain_y chained takes gives next rows last cut start size zed sealing row_of

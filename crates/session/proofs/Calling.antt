@@ -1,5 +1,5 @@
 -- What the calls of a session tell once their checks are passed.
-use Rattle.std.proofs.Common.{◌≡◌, ℕ, ◌+◌, ◌≤◌, false, eqb, ltb, List, length, Some, None, Ok, Err, Option, Result, refl, arith, le-ltb, ne_eqb}
+use Rattle.std.proofs.Common.{◌≡◌, ℕ, ◌+◌, ◌≤◌, false, eqb, ltb, List, length, Some, None, Ok, Option, Result, refl, arith, le-ltb, ne_eqb}
 use Rattle.fault.specs.declared.kinds.KeyFault.{KeyFault}
 use Rattle.fault.specs.declared.kinds.SessionFault.{SessionFault}
 use Rattle.fault.specs.declared.kinds.Placed.{Placed}
@@ -9,29 +9,26 @@ use Rattle.suite.specs.declared.Permutation as permutation
 use Rattle.suite.specs.declared.ChainingHash as hash
 use Rattle.suite.specs.declared.HeaderDigest as digest
 use Rattle.session.specs.declared.types.Heading.{Heading}
-use Rattle.session.specs.declared.types.Core.{Core}
+use Rattle.session.specs.declared.rows.Way as way
+use Rattle.session.specs.declared.types.Given.{Given}
+use Rattle.session.specs.declared.types.Session.{Session}
 use Rattle.session.specs.Calls.{FillBy}
-use Rattle.session.specs.Directions.{Direction}
 use Rattle.session.specs.Runs.{Run, headed}
 use Rattle.session.specs.Sessions.{HeadingAt, header_check, HeaderBy, body_check, held, writes, BodyTaken, BodyBy, empty_check, SealFinished, SealedBy, end_check, OpenJudged, OpenedBy}
 
--- an answer is no refusal
-pub ok_err : {X F : Type 0} {x : X} {e : F} → ◌≡◌ {A = Result X F} (Ok x) (Err e) → ⊥
-ok_err p = let z : ◌≡◌ {A = ℕ} 0 1 = cc in omega arith
-
 pub fill_ok : (o : Option (Placed KeyFault)) (key b b' : List ℕ) → FillBy o key b b' (Ok tt) → (o ≡ None) × (b' ≡ key)
 fill_ok None key b b' f = (refl, f.1)
-fill_ok (Some e) key b b' f = absurd (ok_err f.0)
+fill_ok (Some e) key b b' f = absurd cc
 
-pub header_ok : {A B C D : Type 0} {u : suite.Ghosts A B C D} (p : permutation.Ghosts B) (h : hash.Ghosts C) (d : digest.Ghosts D) (under : List ℕ → Functions) (R : Run) (P : List ℕ) (s s' : Heading A B C D u p h d) (r : Result (Unit {0}) (Placed SessionFault))
-    → length R.header + length P ≤ 65536 → HeaderBy (header_check (length R.header) (length P)) p h d under R P s s' r → (r ≡ Ok tt) × HeadingAt p h d under (headed R P) s'
-header_ok p h d under R P s s' r l c =
+pub header_ok : {A B C D : Type 0} {u : suite.Ghosts A B C D} {p : permutation.Ghosts B} {h : hash.Ghosts C} {d : digest.Ghosts D} (R : Run) (P : List ℕ) (s s' : Heading A B C D u p h d) (r : Result (Unit {0}) (Placed SessionFault))
+    → length R.header + length P ≤ 65536 → HeaderBy (header_check (length R.header) (length P)) R P s s' r → (r ≡ Ok tt) × HeadingAt (headed R P) s'
+header_ok R P s s' r l c =
     let e : ltb 65536 (length R.header + length P) ≡ false = le-ltb 65536 (length R.header + length P) l in
     rw e at c
 
-pub body_ok : {A B C D : Type 0} {u : suite.Ghosts A B C D} {d : digest.Ghosts D} (p : permutation.Ghosts B) (h : hash.Ghosts C) (w : Direction) (under : List ℕ → Functions) (R : Run) (P o o' : List ℕ) (s s' : Core A B C D u p h d) (r : Result (ℕ × ℕ) (Placed SessionFault))
-    → length R.body + length P ≤ 1048576 → writes (held R + length P) ≤ length o → BodyBy (body_check (length R.body) (held R) (length P) (length o)) p h w under R P o o' s s' r → BodyTaken p h w under R P o o' s' r
-body_ok p h w under R P o o' s s' r l m c =
+pub body_ok : {A W B C D : Type 0} {u : suite.Ghosts A B C D} {p : permutation.Ghosts B} {h : hash.Ghosts C} {d : digest.Ghosts D} {w : way.Ghosts W} (R : Run) (P o o' : List ℕ) (s s' : Session A W B C D u p h d w) (r : Result Given (Placed SessionFault))
+    → length R.body + length P ≤ 1048576 → writes (held R + length P) ≤ length o → BodyBy (body_check (length R.body) (held R) (length P) (length o)) R P o o' s s' r → BodyTaken R P o o' s' r
+body_ok R P o o' s s' r l m c =
     let e : ltb 1048576 (length R.body + length P) ≡ false = le-ltb 1048576 (length R.body + length P) l in
     let d : ltb (length o) (writes (held R + length P)) ≡ false = le-ltb (length o) (writes (held R + length P)) m in
     rw (e, d) at c

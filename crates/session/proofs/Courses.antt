@@ -1,5 +1,5 @@
 -- A written session, from its body calls and its finish to the promise.
-use Rattle.std.proofs.Common.{◌≡◌, ℕ, ◌-◌, Bool, true, false, List, [], ◌∷◌, ◌++◌, length, take, drop, replicate, IfOk, Some, None, Ok, Err, vec_items, Option, Result, sym, refl, ap, ◌∙◌, subst, ap₂, Bor}
+use Rattle.std.proofs.Common.{◌≡◌, ℕ, ◌-◌, Bool, true, false, List, [], ◌∷◌, ◌++◌, length, take, drop, replicate, IfOk, Some, None, Ok, Err, vec_items, Option, Result, sym, refl, ap, ◌∙◌, subst, ap₂, Bor, append-nil}
 use Rattle.std.proofs.lemmas.Result.{IfOk-weaker}
 use Rattle.std.specs.declared.alloc.AllocError.{AllocError}
 use Rattle.fault.specs.declared.kinds.SessionFault.{SessionFault}
@@ -16,169 +16,109 @@ use Rattle.session.specs.declared.script.Answer.TheVariants.{Finish}
 use Rattle.session.specs.declared.script.End.{End}
 use Rattle.session.specs.declared.script.End.TheVariants.{Unfinished, Sealed, Opened}
 use Rattle.session.specs.declared.script.Stretch.{Stretch}
-use Rattle.session.specs.declared.types.Core.{Core}
+use Rattle.session.specs.declared.rows.Way as way
+use Rattle.session.specs.declared.types.Session.{Session}
 use Rattle.session.specs.declared.types.Heading.{Heading}
 use Rattle.session.specs.Directions.{Direction, sealing, opening}
 use Rattle.session.specs.Runs.{Run, fresh, finished}
 use Rattle.session.specs.Promise.{Blocks}
-use Rattle.session.specs.Sessions.{HeadingAt, CoreAt, held, empty_check, end_check, SealFinished, SealedBy, OpenJudged, OpenedBy}
-use Rattle.session.specs.Scripts.{run_of, headers_taken, header_answers, held_of}
+use Rattle.session.specs.Sessions.{HeadingAt, SessionAt, held, empty_check, end_check, SealedBy, OpenedBy}
+use Rattle.session.specs.Scripts.{run_of, headers_taken, header_answers, held_of, body_answers}
 use Rattle.session.specs.Playing.{HeaderPlayed, BodyPlayed}
-use Rattle.session.specs.Plays.{AgreesWith, SealEnds, OpenEnds, SealPromise, OpenPromise, SealingPlayed, OpeningPlayed, tag_of}
-use Rattle.session.proofs.Calling.{ok_err}
+use Rattle.session.specs.Logs.{FinishKept, last_of}
+use Rattle.session.specs.Plays.{AgreesWith, SealEnds, OpenVerdict, OpenEnds, SealPromise, OpenPromise, SealingPlayed, OpeningPlayed, tag_of}
 use Rattle.session.proofs.Promises.{blocks, two_runs}
 use Rattle.session.proofs.Stepping.{held_same}
-use Rattle.session.proofs.Straights.{ok_same}
 
 agrees : (w : Direction) (f : Functions) → Lawful f → (R : Run) → Blocks w f R → AgreesWith w f R
 agrees w f L R b = λ R' b' h k l l'. two_runs w f L R R' b b' h k l l'
 
--- a finish of a sealing that was accepted, and one that was refused
-seal_accepted : (o : Option (Placed SessionFault)) (f : Functions) (R : Run) (l t : List ℕ) (n : ℕ) → SealedBy o f R l t (Ok n) → (o ≡ None) × SealFinished f R l t (Ok n)
-seal_accepted None f R l t n s = (refl, s)
-seal_accepted (Some e) f R l t n s = absurd (ok_err s.0)
+-- a finish that hands out nothing leaves the run as it was
+nothing_more : (R : Run) → finished R [] ≡ R
+nothing_more R = ap (λ (o : List ℕ). record { key = R.key; header = R.header; body = R.body; out = o }) (append-nil R.out)
 
-seal_refused : (o : Option (Placed SessionFault)) (f : Functions) (R : Run) (l t : List ℕ) (e : Placed SessionFault) → SealedBy o f R l t (Err e) → SealEnds o f R (Err e) l t
-seal_refused None f R l t e s = absurd (ok_err (sym s.answer))
-seal_refused (Some d) f R l t e s = s
+-- a finish of a sealing: the last bytes belong to the run, and what it promises
+sealed_end : (o : Option (Placed SessionFault)) (f : Functions) (R : Run) (last tag : List ℕ) (r : Result ℕ (Placed SessionFault)) → Blocks sealing f R → held R ≡ held_of (length R.body) → SealedBy o f R last tag r
+    → Blocks sealing f (finished R (last_of r last)) × SealEnds o f (finished R (last_of r last)) r last tag
+sealed_end None f R last tag r b h s =
+    subst (λ (i : Result ℕ (Placed SessionFault)). Blocks sealing f (finished R (last_of i last)) × SealEnds None f (finished R (last_of i last)) i last tag) (sym s.answer) (s.blocks, (ap Ok h, s.seals, subst (λ (i : ℕ). drop i last ≡ replicate (16 - i) 0) h s.zeros))
+sealed_end (Some e) f R last tag r b h s =
+    subst (λ (i : Result ℕ (Placed SessionFault)). Blocks sealing f (finished R (last_of i last)) × SealEnds (Some e) f (finished R (last_of i last)) i last tag) (sym s.0) (subst (Blocks sealing f) (sym (nothing_more R)) b, (refl, s.1, s.2))
 
 -- the same of an opening
-open_accepted : (o : Option (Placed SessionFault)) (f : Functions) (R : Run) (T l : List ℕ) (n : ℕ) → OpenedBy o f R T l (Ok n) → (o ≡ None) × OpenJudged f R T l (Ok n)
-open_accepted None f R T l n s = (refl, s)
-open_accepted (Some e) f R T l n s = absurd (ok_err s.0)
+opened_end : (o : Option (Placed SessionFault)) (f : Functions) (R : Run) (T last : List ℕ) (r : Result ℕ (Placed SessionFault)) → Blocks opening f R → held R ≡ held_of (length R.body) → OpenedBy o f R T last r
+    → Blocks opening f (finished R (last_of r last)) × OpenEnds o f (finished R (last_of r last)) T r last
+opened_end None f R T last (Ok n) b h s =
+    subst (λ (i : ℕ). Blocks opening f (finished R (take i last)) × OpenVerdict f (finished R (take i last)) T (Ok i) last) (sym s.0) (s.1.blocks, (h, s.1.seals, s.1.only, s.1.zeros))
+opened_end None f R T last (Err e) b h s = (subst (Blocks opening f) (sym (nothing_more R)) b, (s.fault, s.none, s.zeros))
+opened_end (Some e) f R T last r b h s =
+    subst (λ (i : Result ℕ (Placed SessionFault)). Blocks opening f (finished R (last_of i last)) × OpenEnds (Some e) f (finished R (last_of i last)) T i last) (sym s.0) (subst (Blocks opening f) (sym (nothing_more R)) b, (refl, s.1))
 
-open_refused : (o : Option (Placed SessionFault)) (f : Functions) (R : Run) (T l : List ℕ) (e : Placed SessionFault) → OpenedBy o f R T l (Err e) → OpenEnds o f R T (Err e) l
-open_refused None f R T l e s = (s.fault, s.none, s.zeros)
-open_refused (Some d) f R T l e s = s
+-- the run once a finish is kept
+finished_run : (key last : List ℕ) (r : Result ℕ (Placed SessionFault)) (p p' : Played) → FinishKept r last p p' → finished (run_of key p) (last_of r last) ≡ run_of key p'
+finished_run key last r p p' e = let h = e.header in let b = e.body in let o = e.out in cc
 
-module _ {A B C D : Type 0} {u : suite.Ghosts A B C D} {z : digest.Ghosts D} (x : permutation.Ghosts B) (y : hash.Ghosts C) (under : List ℕ → Functions) (L : (key : List ℕ) → Block key → Lawful (under key)) where
-  pub sealing_unfinished : (bs : List Stretch) (fin : Bool) (p p' : Played) (s s' : Core A B C D u x y z) → fin ≡ false → BodyPlayed x y sealing under bs p p' s s' → SealingPlayed x y under bs fin p p' Unfinished s
-  sealing_unfinished bs fin p p' s s' fe B = subst (λ (i : Bool). SealingPlayed x y under bs i p p' Unfinished s) (sym fe) λ key a.
-      let c = B.at key a in
-      let l = L key c.taken.key_block in
-      let b = blocks (under key) l sealing (run_of key p') c.taken c.out_is in
-      record { header = B.header; body = B.body key a; blocks = b; agrees = agrees sealing (under key) l (run_of key p') b; finish = (refl, B.answers key a) }
+module _ {A W B C D : Type 0} {u : suite.Ghosts A B C D} {x : permutation.Ghosts B} {y : hash.Ghosts C} {z : digest.Ghosts D} {w : way.Ghosts W} (L : (key : List ℕ) → Block key → Lawful (u.under key)) (bs : List Stretch) (p p₁ : Played)
+    (s s₁ : Session A W B C D u x y z w) (N : BodyPlayed bs p p₁ s s₁) where
+  -- what was handed out before a finish
+  stood : {v : Direction} → w.way ≡ v → (key : List ℕ) → SessionAt (run_of key p₁) s₁ → Blocks v (u.under key) (run_of key p₁)
+  stood we key c = subst (λ (i : Direction). Blocks i (u.under key) (run_of key p₁)) we (blocks (u.under key) (L key c.taken.key_block) w.way (run_of key p₁) c.taken c.out_is)
 
-  pub sealing_accepted : (bs : List Stretch) (fin : Bool) (p p₁ p₂ : Played) (s s₁ : Core A B C D u x y z) (last tag g : List ℕ) (n j : ℕ) → fin ≡ true → BodyPlayed x y sealing under bs p p₁ s s₁
-      → ((R : Run) → CoreAt x y sealing under R s₁ → SealedBy (empty_check (length R.body)) (under R.key) R last tag (Ok n)) → p₂.header ≡ p₁.header → p₂.body ≡ p₁.body → vec_items p₂.out ≡ vec_items p₁.out ++ g → g ≡ take j last → j ≡ n
-      → vec_items p₂.answers ≡ vec_items p₁.answers ++ Finish (Ok n) ∷ [] → SealingPlayed x y under bs fin p p₂ (Sealed last tag) s
-  sealing_accepted bs fin p p₁ p₂ s s₁ last tag g n j fe B F he be oe ge je ae = subst (λ (i : Bool). SealingPlayed x y under bs i p p₂ (Sealed last tag) s) (sym fe) λ key a.
-      let c = B.at key a in
-      let l = L key c.taken.key_block in
-      let R = run_of key p₁ in
-      let q = seal_accepted (empty_check (length R.body)) (under key) R last tag n (F R c) in
-      let nh : n ≡ held R = ok_same q.1.answer in
-      let hs : held R ≡ held_of (length R.body) = held_same x y sealing under L R s₁ c in
-      let gh : g ≡ take (held R) last = ge ∙ ap (λ i. take i last) (je ∙ nh) in
-      let run : finished R (take (held R) last) ≡ run_of key p₂ = cc in
-      let b : Blocks sealing (under key) (run_of key p₂) = subst (Blocks sealing (under key)) run q.1.blocks in
-      let ends : SealEnds (empty_check (length R.body)) (under key) (finished R (take (held R) last)) (Ok n) last tag =
-      subst (λ (o : Option (Placed SessionFault)). SealEnds o (under key) (finished R (take (held R) last)) (Ok n) last tag) (sym q.0) (ap Ok (nh ∙ hs), q.1.seals, subst (λ (i : ℕ). drop i last ≡ replicate (16 - i) 0) hs q.1.zeros) in
-      record {
-        header = ap vec_items he ∙ B.header;
-        body = ap vec_items be ∙ B.body key a;
-        blocks = b;
-        agrees = agrees sealing (under key) l (run_of key p₂) b;
-        finish = (
-          Ok n,
-          last,
-          tag,
-          refl,
-          ae ∙ ap (λ i. i ++ Finish (Ok n) ∷ []) (B.answers key a),
-          subst (λ (Q : Run). SealEnds (empty_check (length Q.body)) (under key) Q (Ok n) last tag) run ends,
-        );
-      }
+  pub sealing_unfinished : (fin : Bool) → w.way ≡ sealing → fin ≡ false → SealingPlayed bs fin p p₁ Unfinished s
+  sealing_unfinished fin we fe = subst (λ (i : Bool). SealingPlayed bs i p p₁ Unfinished s) (sym fe) λ key a.
+      let c = N.at key a in
+      let b = stood we key c in
+      record { header = N.header; body = N.body key a; blocks = b; agrees = agrees sealing (u.under key) (L key c.taken.key_block) (run_of key p₁) b; finish = (refl, N.answers key a) }
 
-  pub sealing_refused : (bs : List Stretch) (fin : Bool) (p p₁ p₂ : Played) (s s₁ : Core A B C D u x y z) (last tag : List ℕ) (e : Placed SessionFault) → fin ≡ true → BodyPlayed x y sealing under bs p p₁ s s₁
-      → ((R : Run) → CoreAt x y sealing under R s₁ → SealedBy (empty_check (length R.body)) (under R.key) R last tag (Err e)) → p₂.header ≡ p₁.header → p₂.body ≡ p₁.body → p₂.out ≡ p₁.out
-      → vec_items p₂.answers ≡ vec_items p₁.answers ++ Finish (Err e) ∷ [] → SealingPlayed x y under bs fin p p₂ (Sealed last tag) s
-  sealing_refused bs fin p p₁ p₂ s s₁ last tag e fe B F he be oe ae = subst (λ (i : Bool). SealingPlayed x y under bs i p p₂ (Sealed last tag) s) (sym fe) λ key a.
-      let c = B.at key a in
-      let l = L key c.taken.key_block in
-      let R = run_of key p₁ in
-      let run : R ≡ run_of key p₂ = cc in
-      let b : Blocks sealing (under key) (run_of key p₂) = subst (Blocks sealing (under key)) run (blocks (under key) l sealing R c.taken c.out_is) in
-      record {
-        header = ap vec_items he ∙ B.header;
-        body = ap vec_items be ∙ B.body key a;
-        blocks = b;
-        agrees = agrees sealing (under key) l (run_of key p₂) b;
-        finish = (
-          Err e,
-          last,
-          tag,
-          refl,
-          ae ∙ ap (λ i. i ++ Finish (Err e) ∷ []) (B.answers key a),
-          subst (λ (Q : Run). SealEnds (empty_check (length Q.body)) (under key) Q (Err e) last tag) run (seal_refused (empty_check (length R.body)) (under key) R last tag e (F R c)),
-        );
-      }
+  pub opening_unfinished : (o : Option (Bor (List ℕ))) → w.way ≡ opening → o ≡ None → OpeningPlayed bs o p p₁ Unfinished s
+  opening_unfinished o we ne = subst (λ (i : Option (Bor (List ℕ))). OpeningPlayed bs i p p₁ Unfinished s) (sym ne) λ key a.
+      let c = N.at key a in
+      let b = stood we key c in
+      record { header = N.header; body = N.body key a; blocks = b; agrees = agrees opening (u.under key) (L key c.taken.key_block) (run_of key p₁) b; finish = (refl, N.answers key a) }
 
-  pub opening_unfinished : (bs : List Stretch) (o : Option (Bor (List ℕ))) (p p' : Played) (s s' : Core A B C D u x y z) → o ≡ None → BodyPlayed x y opening under bs p p' s s' → OpeningPlayed x y under bs o p p' Unfinished s
-  opening_unfinished bs o p p' s s' ne B = subst (λ (i : Option (Bor (List ℕ))). OpeningPlayed x y under bs i p p' Unfinished s) (sym ne) λ key a.
-      let c = B.at key a in
-      let l = L key c.taken.key_block in
-      let b = blocks (under key) l opening (run_of key p') c.taken c.out_is in
-      record { header = B.header; body = B.body key a; blocks = b; agrees = agrees opening (under key) l (run_of key p') b; finish = (refl, B.answers key a) }
+  module _ (p₂ : Played) (last : List ℕ) (r : Result ℕ (Placed SessionFault)) (F : FinishKept r last p₁ p₂) where
+    kept_answers : (key : List ℕ) → SessionAt (run_of key p) s → vec_items p₂.answers ≡ vec_items p.answers ++ body_answers (vec_items p.body) bs ++ Finish r ∷ []
+    kept_answers key a = F.answers ∙ ap (λ i. i ++ Finish r ∷ []) (N.answers key a)
 
-  pub opening_accepted : (bs : List Stretch) (o : Option (Bor (List ℕ))) (t : Bor (List ℕ)) (p p₁ p₂ : Played) (s s₁ : Core A B C D u x y z) (last g : List ℕ) (n j : ℕ) → o ≡ Some t → BodyPlayed x y opening under bs p p₁ s s₁
-      → ((R : Run) → CoreAt x y opening under R s₁ → OpenedBy (end_check (length R.body) (length t.now)) (under R.key) R t.now last (Ok n)) → p₂.header ≡ p₁.header → p₂.body ≡ p₁.body → vec_items p₂.out ≡ vec_items p₁.out ++ g
-      → g ≡ take j last → j ≡ n → vec_items p₂.answers ≡ vec_items p₁.answers ++ Finish (Ok n) ∷ [] → OpeningPlayed x y under bs o p p₂ (Opened last) s
-  opening_accepted bs o t p p₁ p₂ s s₁ last g n j te B F he be oe ge je ae = subst (λ (i : Option (Bor (List ℕ))). OpeningPlayed x y under bs i p p₂ (Opened last) s) (sym te) λ key a.
-      let c = B.at key a in
-      let l = L key c.taken.key_block in
-      let R = run_of key p₁ in
-      let q = open_accepted (end_check (length R.body) (length t.now)) (under key) R t.now last n (F R c) in
-      let hs : held R ≡ held_of (length R.body) = held_same x y opening under L R s₁ c in
-      let gh : g ≡ take (held R) last = ge ∙ ap (λ i. take i last) (je ∙ q.1.0) in
-      let run : finished R (take (held R) last) ≡ run_of key p₂ = cc in
-      let b : Blocks opening (under key) (run_of key p₂) = subst (Blocks opening (under key)) run q.1.1.blocks in
-      let nh : n ≡ held_of (length R.body) = q.1.0 ∙ hs in
-      let ends : OpenEnds (end_check (length R.body) (length t.now)) (under key) (finished R (take (held R) last)) t.now (Ok n) last =
-      subst (λ (i : Option (Placed SessionFault)). OpenEnds i (under key) (finished R (take (held R) last)) t.now (Ok n) last) (sym q.0) (nh, q.1.1.seals, q.1.1.only, subst (λ (i : ℕ). drop i last ≡ replicate (16 - i) 0) (sym q.1.0) q.1.1.zeros) in
-      record {
-        header = ap vec_items he ∙ B.header;
-        body = ap vec_items be ∙ B.body key a;
-        blocks = b;
-        agrees = agrees opening (under key) l (run_of key p₂) b;
-        finish = (
-          Ok n,
-          last,
-          refl,
-          ae ∙ ap (λ i. i ++ Finish (Ok n) ∷ []) (B.answers key a),
-          subst (λ (Q : Run). OpenEnds (end_check (length Q.body) (length t.now)) (under key) Q t.now (Ok n) last) run ends,
-        );
-      }
+    pub sealing_finished : (fin : Bool) (tag : List ℕ) → w.way ≡ sealing → fin ≡ true → ((R : Run) → SessionAt R s₁ → SealedBy (empty_check (length R.body)) (u.under R.key) R last tag r) → SealingPlayed bs fin p p₂ (Sealed last tag) s
+    sealing_finished fin tag we fe S = subst (λ (i : Bool). SealingPlayed bs i p p₂ (Sealed last tag) s) (sym fe) λ key a.
+        let c = N.at key a in
+        let l = L key c.taken.key_block in
+        let R = run_of key p₁ in
+        let q = sealed_end (empty_check (length R.body)) (u.under key) R last tag r (stood we key c) (held_same L R s₁ c) (S R c) in
+        let run = finished_run key last r p₁ p₂ F in
+        let b : Blocks sealing (u.under key) (run_of key p₂) = subst (Blocks sealing (u.under key)) run q.0 in
+        record {
+          header = ap vec_items F.header ∙ N.header;
+          body = ap vec_items F.body ∙ N.body key a;
+          blocks = b;
+          agrees = agrees sealing (u.under key) l (run_of key p₂) b;
+          finish = (r, last, tag, refl, kept_answers key a, subst (λ (Q : Run). SealEnds (empty_check (length Q.body)) (u.under key) Q r last tag) run q.1);
+        }
 
-  pub opening_refused : (bs : List Stretch) (o : Option (Bor (List ℕ))) (t : Bor (List ℕ)) (p p₁ p₂ : Played) (s s₁ : Core A B C D u x y z) (last : List ℕ) (e : Placed SessionFault) → o ≡ Some t → BodyPlayed x y opening under bs p p₁ s s₁
-      → ((R : Run) → CoreAt x y opening under R s₁ → OpenedBy (end_check (length R.body) (length t.now)) (under R.key) R t.now last (Err e)) → p₂.header ≡ p₁.header → p₂.body ≡ p₁.body → p₂.out ≡ p₁.out
-      → vec_items p₂.answers ≡ vec_items p₁.answers ++ Finish (Err e) ∷ [] → OpeningPlayed x y under bs o p p₂ (Opened last) s
-  opening_refused bs o t p p₁ p₂ s s₁ last e te B F he be oe ae = subst (λ (i : Option (Bor (List ℕ))). OpeningPlayed x y under bs i p p₂ (Opened last) s) (sym te) λ key a.
-      let c = B.at key a in
-      let l = L key c.taken.key_block in
-      let R = run_of key p₁ in
-      let run : R ≡ run_of key p₂ = cc in
-      let b : Blocks opening (under key) (run_of key p₂) = subst (Blocks opening (under key)) run (blocks (under key) l opening R c.taken c.out_is) in
-      record {
-        header = ap vec_items he ∙ B.header;
-        body = ap vec_items be ∙ B.body key a;
-        blocks = b;
-        agrees = agrees opening (under key) l (run_of key p₂) b;
-        finish = (
-          Err e,
-          last,
-          refl,
-          ae ∙ ap (λ i. i ++ Finish (Err e) ∷ []) (B.answers key a),
-          subst (λ (Q : Run). OpenEnds (end_check (length Q.body) (length t.now)) (under key) Q t.now (Err e) last) run (open_refused (end_check (length R.body) (length t.now)) (under key) R t.now last e (F R c)),
-        );
-      }
+    pub opening_finished : (o : Option (Bor (List ℕ))) (t : Bor (List ℕ)) → w.way ≡ opening → o ≡ Some t → ((R : Run) → SessionAt R s₁ → OpenedBy (end_check (length R.body) (length t.now)) (u.under R.key) R t.now last r) → OpeningPlayed bs o p p₂ (Opened last) s
+    opening_finished o t we te S = subst (λ (i : Option (Bor (List ℕ))). OpeningPlayed bs i p p₂ (Opened last) s) (sym te) λ key a.
+        let c = N.at key a in
+        let l = L key c.taken.key_block in
+        let R = run_of key p₁ in
+        let q = opened_end (end_check (length R.body) (length t.now)) (u.under key) R t.now last r (stood we key c) (held_same L R s₁ c) (S R c) in
+        let run = finished_run key last r p₁ p₂ F in
+        let b : Blocks opening (u.under key) (run_of key p₂) = subst (Blocks opening (u.under key)) run q.0 in
+        record {
+          header = ap vec_items F.header ∙ N.header;
+          body = ap vec_items F.body ∙ N.body key a;
+          blocks = b;
+          agrees = agrees opening (u.under key) l (run_of key p₂) b;
+          finish = (r, last, refl, kept_answers key a, subst (λ (Q : Run). OpenEnds (end_check (length Q.body) (length t.now)) (u.under key) Q t.now r last) run q.1);
+        }
 
 -- from new on: p is the empty log, and s the new heading
-module _ {A B C D : Type 0} {u : suite.Ghosts A B C D} (x : permutation.Ghosts B) (y : hash.Ghosts C) (z : digest.Ghosts D) (under : List ℕ → Functions) (key : List ℕ) (hs : List Stretch) (p p₁ : Played) (s s₁ : Heading A B C D u x y z)
-    (none : (vec_items p.header ≡ []) × (vec_items p.body ≡ []) × (vec_items p.out ≡ []) × (vec_items p.answers ≡ [])) (new : HeadingAt x y z under (fresh key) s) (played : HeaderPlayed x y z under hs p p₁ s s₁) where
-  begun : HeadingAt x y z under (run_of key p) s
-  begun = let h = none.0 in let b = none.1 in let o = none.2 in let run : fresh key ≡ run_of key p = cc in subst (λ (R : Run). HeadingAt x y z under R s) run new
+module _ {A B C D : Type 0} {u : suite.Ghosts A B C D} {x : permutation.Ghosts B} {y : hash.Ghosts C} {z : digest.Ghosts D} (key : List ℕ) (hs : List Stretch) (p p₁ : Played) (s s₁ : Heading A B C D u x y z)
+    (none : (vec_items p.header ≡ []) × (vec_items p.body ≡ []) × (vec_items p.out ≡ []) × (vec_items p.answers ≡ [])) (new : HeadingAt (fresh key) s) (played : HeaderPlayed hs p p₁ s s₁) where
+  begun : HeadingAt (run_of key p) s
+  begun = let h = none.0 in let b = none.1 in let o = none.2 in let run : fresh key ≡ run_of key p = cc in subst (λ (R : Run). HeadingAt R s) run new
 
-  headed_at : HeadingAt x y z under (run_of key p₁) s₁
+  headed_at : HeadingAt (run_of key p₁) s₁
   headed_at = played.at key begun
 
   headers_are : vec_items p₁.header ≡ headers_taken [] hs
@@ -187,12 +127,12 @@ module _ {A B C D : Type 0} {u : suite.Ghosts A B C D} (x : permutation.Ghosts B
   answers_are : vec_items p₁.answers ≡ header_answers [] hs
   answers_are = played.answers key begun ∙ ap₂ (λ before H. before ++ header_answers H hs) none.3 none.0
 
-  pub sealing_course : (bs : List Stretch) (fin : Bool) (c : Core A B C D u x y z) → ((R : Run) → HeadingAt x y z under R s₁ → CoreAt x y sealing under R c) → (r : Result (Played × End) AllocError)
-      → IfOk r (λ q. SealingPlayed x y under bs fin p₁ q.0 q.1 c) → IfOk r (λ q. SealPromise under key (headers_taken [] hs) [] (header_answers [] hs) bs fin q.0 q.1)
+  pub sealing_course : {W : Type 0} {w : way.Ghosts W} → (bs : List Stretch) (fin : Bool) (c : Session A W B C D u x y z w) → ((R : Run) → HeadingAt R s₁ → SessionAt R c) → (r : Result (Played × End) AllocError)
+      → IfOk r (λ q. SealingPlayed {u = u} bs fin p₁ q.0 q.1 c) → IfOk r (λ q. SealPromise u.under key (headers_taken [] hs) [] (header_answers [] hs) bs fin q.0 q.1)
   sealing_course bs fin c start r m =
-      IfOk-weaker r _ _ (λ q a. subst (λ (H : List ℕ). SealPromise under key H [] (header_answers [] hs) bs fin q.0 q.1) headers_are (subst (λ (M : List ℕ). SealPromise under key (vec_items p₁.header) M (header_answers [] hs) bs fin q.0 q.1) headed_at.no_body (subst (λ (before : List Answer). SealPromise under key (vec_items p₁.header) (vec_items p₁.body) before bs fin q.0 q.1) answers_are (a key (start (run_of key p₁) headed_at))))) m
+      IfOk-weaker r _ _ (λ q a. subst (λ (H : List ℕ). SealPromise u.under key H [] (header_answers [] hs) bs fin q.0 q.1) headers_are (subst (λ (M : List ℕ). SealPromise u.under key (vec_items p₁.header) M (header_answers [] hs) bs fin q.0 q.1) headed_at.no_body (subst (λ (before : List Answer). SealPromise u.under key (vec_items p₁.header) (vec_items p₁.body) before bs fin q.0 q.1) answers_are (a key (start (run_of key p₁) headed_at))))) m
 
-  pub opening_course : (bs : List Stretch) (tag : Option (Bor (List ℕ))) (c : Core A B C D u x y z) → ((R : Run) → HeadingAt x y z under R s₁ → CoreAt x y opening under R c) → (r : Result (Played × End) AllocError)
-      → IfOk r (λ q. OpeningPlayed x y under bs tag p₁ q.0 q.1 c) → IfOk r (λ q. OpenPromise under key (headers_taken [] hs) [] (header_answers [] hs) bs (tag_of tag) q.0 q.1)
+  pub opening_course : {W : Type 0} {w : way.Ghosts W} → (bs : List Stretch) (tag : Option (Bor (List ℕ))) (c : Session A W B C D u x y z w) → ((R : Run) → HeadingAt R s₁ → SessionAt R c) → (r : Result (Played × End) AllocError)
+      → IfOk r (λ q. OpeningPlayed {u = u} bs tag p₁ q.0 q.1 c) → IfOk r (λ q. OpenPromise u.under key (headers_taken [] hs) [] (header_answers [] hs) bs (tag_of tag) q.0 q.1)
   opening_course bs tag c start r m =
-      IfOk-weaker r _ _ (λ q a. subst (λ (H : List ℕ). OpenPromise under key H [] (header_answers [] hs) bs (tag_of tag) q.0 q.1) headers_are (subst (λ (M : List ℕ). OpenPromise under key (vec_items p₁.header) M (header_answers [] hs) bs (tag_of tag) q.0 q.1) headed_at.no_body (subst (λ (before : List Answer). OpenPromise under key (vec_items p₁.header) (vec_items p₁.body) before bs (tag_of tag) q.0 q.1) answers_are (a key (start (run_of key p₁) headed_at))))) m
+      IfOk-weaker r _ _ (λ q a. subst (λ (H : List ℕ). OpenPromise u.under key H [] (header_answers [] hs) bs (tag_of tag) q.0 q.1) headers_are (subst (λ (M : List ℕ). OpenPromise u.under key (vec_items p₁.header) M (header_answers [] hs) bs (tag_of tag) q.0 q.1) headed_at.no_body (subst (λ (before : List Answer). OpenPromise u.under key (vec_items p₁.header) (vec_items p₁.body) before bs (tag_of tag) q.0 q.1) answers_are (a key (start (run_of key p₁) headed_at))))) m

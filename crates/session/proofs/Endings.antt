@@ -1,12 +1,12 @@
 -- The last row of a session, from what the calls of the code give to what the mode computes.
-use Rattle.std.proofs.Common.{◌≡◌, ℕ, ◌-◌, ◌*◌, ◌≤◌, Bool, true, false, ◌&&◌, List, ◌++◌, length, take, drop, replicate, sym, ap, ◌∙◌, ap₂, inl, inr, arith, length-drop, take-append-drop, length-take}
+use Rattle.std.proofs.Common.{◌≡◌, ℕ, ◌-◌, ◌*◌, ◌≤◌, Bool, true, false, ◌&&◌, List, ◌++◌, length, take, drop, replicate, sym, refl, ap, ◌∙◌, ap₂, inl, inr, arith, length-drop, take-append-drop, length-take}
 use Rattle.std.proofs.lemmas.List.{take_at, drop_at, take_rest, take-replicate}
+use Rattle.std.specs.Bool.{then_some}
 use Rattle.std.proofs.lemmas.Bool.{and_parts, and_cases}
-use Rattle.poet.specs.Bytes.{◌⊕◌}
 use Rattle.poet.specs.Functions.{Functions}
-use Rattle.poet.specs.Rows.{State, Sheet, rows, last, cut, whole, ends, sheet, start, turned, size, zed, sealing, cipher, tag, opening}
+use Rattle.poet.specs.Rows.{State, Sheet, rows, last, cut, whole, ends, sheet, start, turned, size, zed, sealing, cipher, tag, opening, opened}
 use Rattle.poet.proofs.Completing.{completes}
-use Rattle.session.specs.Steps.{lanes, Ended, Tested}
+use Rattle.session.specs.Steps.{lanes, Ended, Tests, Tested}
 
 -- the last row looks at x and y only
 last_from : (e c : List ℕ → List ℕ) (S b : List ℕ) (s : State) (x y : List ℕ) → x ≡ s.x → y ≡ s.y → last e c S (lanes x y) b ≡ last e c S s b
@@ -47,23 +47,21 @@ last_bytes g q l k j gl fit je qe le =
     )
 
 -- the end of a sealing
-pub sealed : (f : Functions) (H M : List ℕ) {e c : List ℕ → List ℕ} {tau S p b x y x' y' g z q T : List ℕ} {k : ℕ} → e ≡ f.enc → c ≡ f.chain → tau ≡ f.dig H → S ≡ size f (length M)
-    → x ≡ (rows f.enc f.chain (whole M) (start f H) M).x → y ≡ (rows f.enc f.chain (whole M) (start f H) M).y → p ≡ drop (16 * whole M) M → b ≡ take 16 (p ++ tau) → Ended e c S x y b x' y' g
-    → z ≡ e (c x' ⊕ tau) ⊕ c y' ⊕ tau → q ≡ take (16 - k) (drop k g) → T ≡ take 16 (q ++ z) → k ≡ ends M → length g ≡ 16
+pub sealed : (f : Functions) (H M : List ℕ) {tau S p b x y x' y' g z q T : List ℕ} {k : ℕ} → tau ≡ f.dig H → S ≡ size f (length M) → x ≡ (rows f.enc f.chain (whole M) (start f H) M).x → y ≡ (rows f.enc f.chain (whole M) (start f H) M).y
+    → p ≡ drop (16 * whole M) M → b ≡ take 16 (p ++ tau) → Ended f.enc f.chain S x y b x' y' g → z ≡ zed f (f.dig H) x' y' → q ≡ take (16 - k) (drop k g) → T ≡ take 16 (q ++ z) → k ≡ ends M → length g ≡ 16
     → ((rows f.enc f.chain (whole M) (start f H) M).out ++ take (ends M) g ≡ cipher f H M) × (T ≡ tag f H M)
-unfolding sealing zed
-sealed f H M {e} {c} {tau} {S} {p} {b} {x} {y} {x'} {y'} {g} {z} {q} {T} {k} ee ce te Se xe ye pe be E ze qe Te ke gl =
+unfolding sealing
+sealed f H M {tau} {S} {p} {b} {x} {y} {x'} {y'} {g} {z} {q} {T} {k} te Se xe ye pe be E ze qe Te ke gl =
     let s : State = start f H in
-    let re : rows e c (whole M) s M ≡ rows f.enc f.chain (whole M) s M = cc in
-    let C : Closed e c S s M tau x' y' g = closed e c S s M tau p b x y x' y' g (xe ∙ sym (ap (λ (u : State). u.x) re)) (ye ∙ sym (ap (λ (u : State). u.y) re)) pe be E in
-    let Q : sheet e c S s M (take (16 - ends M) tau) ≡ sealing f H M = cc in
+    let C : Closed f.enc f.chain S s M tau x' y' g = closed f.enc f.chain S s M tau p b x y x' y' g xe ye pe be E in
+    let Q : sheet f.enc f.chain S s M (take (16 - ends M) tau) ≡ sealing f H M = cc in
     let x_is : x' ≡ (sealing f H M).x = C.x_is ∙ ap (λ (u : Sheet). u.x) Q in
     let y_is : y' ≡ (sealing f H M).y = C.y_is ∙ ap (λ (u : Sheet). u.y) Q in
     let z_is : z ≡ zed f (f.dig H) (sealing f H M).x (sealing f H M).y = cc in
     let qd : q ≡ drop (ends M) g = qe ∙ ap (λ n. take (n - k) (drop k g)) (sym gl) ∙ take_rest g k ∙ ap (λ n. drop n g) ke in
     let qs : length q ≤ 16 = omega (arith, ap length qd, length-drop (ends M) g) in
     let ql : 16 - length q ≡ ends M = omega (arith, ap length qd, length-drop (ends M) g) in (
-      ap (λ (u : State). u.out ++ take (ends M) g) (sym re) ∙ C.out ∙ ap (λ (u : Sheet). u.out) Q,
+      C.out ∙ ap (λ (u : Sheet). u.out) Q,
       Te ∙ completes q z qs ∙ ap₂ (λ u n. u ++ take n z) (qd ∙ C.rest ∙ ap (λ (u : Sheet). u.rest) Q) ql ∙ ap (λ u. (sealing f H M).rest ++ take (ends M) u) z_is,
     )
 
@@ -81,18 +79,22 @@ module _ (g t : List ℕ) (k : ℕ) (gl : length g ≡ 16) (fit : k ≤ 16) (u q
   with_ends : drop k g ≡ take (16 - k) t → g ≡ u
   with_ends e = sym (take-append-drop k g) ∙ ap (λ p. take k g ++ p) e ∙ sym u_is
 
+-- a block is given only where the tests are passed
+some_tested : (f : Functions) (H C T G g : List ℕ) (r : Bool) → G ++ take (ends C) g ≡ opened f H C T → (r ≡ true → Tests f H C T) → (r ≡ false → Tests f H C T → ⊥) → Tested f H C T G (then_some r g)
+some_tested f H C T G g true o pass fail = (o, pass refl)
+some_tested f H C T G g false o pass fail = fail refl
+
 -- the end of an opening
-pub tested : (f : Functions) (H C T : List ℕ) {e d c : List ℕ → List ℕ} {tau S p b x y x' y' g z q u v w : List ℕ} {k j : ℕ} {padded tagged : Bool} → e ≡ f.enc → d ≡ f.dec → c ≡ f.chain → tau ≡ f.dig H → S ≡ size f (length C)
-    → x ≡ (rows f.dec f.chain (whole C) (turned (start f H)) C).x → y ≡ (rows f.dec f.chain (whole C) (turned (start f H)) C).y → p ≡ drop (16 * whole C) C → b ≡ take 16 (p ++ T) → Ended d c S x y b x' y' g
-    → z ≡ e (c y' ⊕ tau) ⊕ c x' ⊕ tau → q ≡ take k g → u ≡ take 16 (q ++ tau) → v ≡ take j T → w ≡ take 16 (v ++ z) → k ≡ ends C → j ≡ 16 - ends C → length g ≡ 16 → length T ≡ 16
+pub tested : (f : Functions) (H C T : List ℕ) {tau S p b x y x' y' g z q u v w : List ℕ} {k j : ℕ} {padded tagged : Bool} → tau ≡ f.dig H → S ≡ size f (length C)
+    → x ≡ (rows f.dec f.chain (whole C) (turned (start f H)) C).x → y ≡ (rows f.dec f.chain (whole C) (turned (start f H)) C).y → p ≡ drop (16 * whole C) C → b ≡ take 16 (p ++ T) → Ended f.dec f.chain S x y b x' y' g
+    → z ≡ zed f (f.dig H) y' x' → q ≡ take k g → u ≡ take 16 (q ++ tau) → v ≡ take j T → w ≡ take 16 (v ++ z) → k ≡ ends C → j ≡ 16 - ends C → length g ≡ 16 → length T ≡ 16
     → (padded ≡ true → g ≡ u) → (padded ≡ false → g ≡ u → ⊥) → (tagged ≡ true → T ≡ w) → (tagged ≡ false → T ≡ w → ⊥)
-    → Tested f H C T (rows f.dec f.chain (whole C) (turned (start f H)) C).out g (padded && tagged)
-unfolding opening zed
-tested f H C T {e} {d} {c} {tau} {S} {p} {b} {x} {y} {x'} {y'} {g} {z} {q} {u} {v} {w} {k} {j} {padded} {tagged} ee de ce te Se xe ye pe be E ze qe ue ve we ke je gl Tl p-yes p-no t-yes t-no =
+    → Tested f H C T (rows f.dec f.chain (whole C) (turned (start f H)) C).out (then_some (padded && tagged) g)
+unfolding opening
+tested f H C T {tau} {S} {p} {b} {x} {y} {x'} {y'} {g} {z} {q} {u} {v} {w} {k} {j} {padded} {tagged} te Se xe ye pe be E ze qe ue ve we ke je gl Tl p-yes p-no t-yes t-no =
     let s : State = turned (start f H) in
-    let re : rows d c (whole C) s C ≡ rows f.dec f.chain (whole C) s C = cc in
-    let X : Closed d c S s C T x' y' g = closed d c S s C T p b x y x' y' g (xe ∙ sym (ap (λ (o : State). o.x) re)) (ye ∙ sym (ap (λ (o : State). o.y) re)) pe be E in
-    let Q : sheet d c S s C (take (16 - ends C) T) ≡ opening f H C T = cc in
+    let X : Closed f.dec f.chain S s C T x' y' g = closed f.dec f.chain S s C T p b x y x' y' g xe ye pe be E in
+    let Q : sheet f.dec f.chain S s C (take (16 - ends C) T) ≡ opening f H C T = cc in
     let x_is : x' ≡ (opening f H C T).x = X.x_is ∙ ap (λ (o : Sheet). o.x) Q in
     let y_is : y' ≡ (opening f H C T).y = X.y_is ∙ ap (λ (o : Sheet). o.y) Q in
     let z_is : z ≡ zed f (f.dig H) (opening f H C T).y (opening f H C T).x = cc in
@@ -102,19 +104,17 @@ tested f H C T {e} {d} {c} {tau} {S} {p} {b} {x} {y} {x'} {y'} {g} {z} {q} {u} {
     let few : ends C ≤ 16 = omega arith in
     let back : 16 - (16 - ends C) ≡ ends C = omega arith in
     let few' : 16 - ends C ≤ 16 = omega arith in
+    let both : padded && tagged ≡ true → Tests f H C T =
+    λ r.
+    let b = and_parts padded tagged r in
     record {
-      out = ap (λ (o : State). o.out ++ take (ends C) g) (sym re) ∙ X.out ∙ ap (λ (o : Sheet). o.out) Q;
-      yes =
-          λ r.
-          let both = and_parts padded tagged r in
-          record {
-            fill = sym r-is ∙ ends_with g tau (ends C) gl few u q qe' ue (p-yes both.0) ∙ ap (take (16 - ends C)) te;
-            check = ends_with T z (16 - ends C) Tl few' w v ve' we (t-yes both.1) ∙ ap₂ take back z_is;
-          };
-      fails =
-          λ r t.
-          elim (and_cases padded tagged r) [
-            | inl i ↦ p-no i (with_ends g tau (ends C) gl few u q qe' ue (r-is ∙ t.fill ∙ ap (take (16 - ends C)) (sym te)))
-            | inr i ↦ t-no i (with_ends T z (16 - ends C) Tl few' w v ve' we (t.check ∙ ap₂ take (sym back) (sym z_is)))
-          ];
-    }
+      fill = sym r-is ∙ ends_with g tau (ends C) gl few u q qe' ue (p-yes b.0) ∙ ap (take (16 - ends C)) te;
+      check = ends_with T z (16 - ends C) Tl few' w v ve' we (t-yes b.1) ∙ ap₂ take back z_is;
+    } in
+    let fails : padded && tagged ≡ false → Tests f H C T → ⊥ =
+    λ r t.
+    elim (and_cases padded tagged r) [
+      | inl i ↦ p-no i (with_ends g tau (ends C) gl few u q qe' ue (r-is ∙ t.fill ∙ ap (take (16 - ends C)) (sym te)))
+      | inr i ↦ t-no i (with_ends T z (16 - ends C) Tl few' w v ve' we (t.check ∙ ap₂ take (sym back) (sym z_is)))
+    ] in
+    some_tested f H C T (rows f.dec f.chain (whole C) s C).out g (padded && tagged) (X.out ∙ ap (λ (o : Sheet). o.out) Q) both fails

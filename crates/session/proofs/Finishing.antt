@@ -1,19 +1,19 @@
 -- The end of a session, from what the mode computes to what the calls promise.
-use Rattle.std.proofs.Common.{◌≡◌, ℕ, ◌-◌, ◌≤◌, Bool, true, false, eqb, List, ◌++◌, length, take, drop, replicate, None, Ok, Err, sym, refl, ap, ◌∙◌, subst, ap₂, arith, ne_eqb, eqb-true}
+use Rattle.std.proofs.Common.{◌≡◌, ℕ, ◌-◌, ◌≤◌, true, false, eqb, List, ◌++◌, length, take, drop, replicate, Some, None, Ok, Err, Option, sym, refl, ap, ◌∙◌, subst, ap₂, arith, ne_eqb, eqb-true}
 use Rattle.fault.specs.declared.kinds.SessionFault.{SessionFault}
 use Rattle.fault.specs.declared.kinds.SessionFault.TheVariants.{Forged}
 use Rattle.fault.specs.declared.kinds.Placed.{Placed}
 use Rattle.poet.specs.Bytes.{Bytes, Block}
 use Rattle.poet.specs.Functions.{Functions, Lawful}
 use Rattle.poet.specs.Seal.{Limits, Seals}
-use Rattle.poet.specs.Rows.{ends, cipher, tag, opened, Accepts}
+use Rattle.poet.specs.Rows.{ends, cipher, tag, opened}
 use Rattle.poet.proofs.Computing.{computing_law}
 use Rattle.poet.proofs.Accepting.{opening_law}
 use Rattle.session.specs.Calls.{answered, tag_check}
 use Rattle.session.specs.Directions.{Direction, sealing, opening}
 use Rattle.session.specs.Runs.{Run}
 use Rattle.session.specs.Sessions.{Taken, rows_of, held, SealFinished, OpenFinished, OpenRefused, OpenedBy, end_check}
-use Rattle.session.specs.Steps.{Tests, Tested}
+use Rattle.session.specs.Steps.{Tested}
 use Rattle.session.proofs.Endings.{last_bytes}
 use Rattle.session.proofs.Promises.{blocks, sealed_blocks}
 use Rattle.session.proofs.Passing.{answered_ok, only_none}
@@ -46,34 +46,30 @@ module _ (f : Functions) (L : Lawful f) (R : Run) (t : Taken R) (lim : Limits R.
         zeros = b.1;
       }
 
-  module _ (T : List ℕ) (tb : Block T) (oe : R.out ≡ (rows_of opening f R).out) (r : Bool) (s : Tested f R.header R.body T (rows_of opening f R).out g r) where
-    accepts : Tests f R.header R.body T → Accepts f R.header R.body T
-    accepts x = record { limits = lim; tag_block = tb; fill = x.fill; check = x.check }
+  open_finished : (T : List ℕ) (tb : Block T) → R.out ≡ (rows_of opening f R).out → Tested f R.header R.body T (rows_of opening f R).out (Some g) → (len ≡ held R) × OpenFinished f R T l
+  open_finished T tb oe s =
+      let O = opening_law f L R.header R.body T in
+      let b = bytes opening oe in
+      let m : R.out ++ take (held R) l ≡ opened f R.header R.body T = ap₂ (λ u v. u ++ v) oe b.0 ∙ s.0 in
+      let seals : Seals f R.header (R.out ++ take (held R) l) R.body T = rw m (O.computes (record { limits = lim; tag_block = tb; fill = s.1.fill; check = s.1.check })) in (
+        le ∙ sym (held_is f L opening R t oe),
+        record {
+          seals = seals;
+          only = λ n p. O.only n p ∙ sym m;
+          blocks = (sealed_blocks f L R.key R.header (R.out ++ take (held R) l) R.body T seals).1;
+          zeros = b.1;
+        },
+      )
 
-    pub open_finished : r ≡ true → (len ≡ held R) × OpenFinished f R T l
-    open_finished re =
-        let O = opening_law f L R.header R.body T in
-        let b = bytes opening oe in
-        let m : R.out ++ take (held R) l ≡ opened f R.header R.body T = ap₂ (λ u v. u ++ v) oe b.0 ∙ s.out in
-        let seals : Seals f R.header (R.out ++ take (held R) l) R.body T = rw m (O.computes (accepts (s.yes re))) in (
-          le ∙ sym (held_is f L opening R t oe),
-          record {
-            seals = seals;
-            only = λ n p. O.only n p ∙ sym m;
-            blocks = (sealed_blocks f L R.key R.header (R.out ++ take (held R) l) R.body T seals).1;
-            zeros = b.1;
-          },
-        )
-
-pub open_refused : (f : Functions) (L : Lawful f) (R : Run) → Taken R → R.out ≡ (rows_of opening f R).out → Limits R.header R.body → (T G g : List ℕ) (r : Bool) → Tested f R.header R.body T G g r → (l' : List ℕ) (e' : Placed SessionFault) → r ≡ false → l' ≡ replicate 16 0
+open_refused : (f : Functions) (L : Lawful f) (R : Run) → Taken R → R.out ≡ (rows_of opening f R).out → Limits R.header R.body → (T G : List ℕ) → Tested f R.header R.body T G None → (l' : List ℕ) (e' : Placed SessionFault) → l' ≡ replicate 16 0
     → e' ≡ record { fault = Forged; place = length R.body } → OpenRefused f R T l' e'
-open_refused f L R t oe lim T G g r s l' e' re z ee =
+open_refused f L R t oe lim T G s l' e' z ee =
     let O = opening_law f L R.header R.body T in
-    record { fault = ee; none = λ m p. let a = O.accepts.1 (m, p) in s.fails re (record { fill = a.fill; check = a.check }); blocks = blocks f L opening R t oe; zeros = z }
+    record { fault = ee; none = λ m p. let a = O.accepts.1 (m, p) in s (record { fill = a.fill; check = a.check }); blocks = blocks f L opening R t oe; zeros = z }
 
 -- an opening's finish, once the tag has passed its check: T is the tag given, and T' what the check answered
 module _ (f : Functions) (L : Lawful f) (R : Run) (t : Taken R) (total : ℕ) (te : total ≡ length R.body) (some : 1 ≤ total) (most : total ≤ 1048576) (T T' : List ℕ) (tb : Bytes T)
-    (ok : Ok T' ≡ answered (tag_check (length T) total) T) (oe : R.out ≡ (rows_of opening f R).out) (g : List ℕ) (r : Bool) (s' : Tested f R.header R.body T' (rows_of opening f R).out g r) where
+    (ok : Ok T' ≡ answered (tag_check (length T) total) T) (oe : R.out ≡ (rows_of opening f R).out) where
   passes_tag : (tag_check (length T) total ≡ None) × (T' ≡ T)
   passes_tag = answered_ok (tag_check (length T) total) T T' ok
 
@@ -89,14 +85,13 @@ module _ (f : Functions) (L : Lawful f) (R : Run) (t : Taken R) (total : ℕ) (t
   tag_block : Block T
   tag_block = record { long = eqb-true (length T) 16 sixteen; bytes = tb }
 
-  s : Tested f R.header R.body T (rows_of opening f R).out g r
-  s = subst (λ (u : List ℕ). Tested f R.header R.body u (rows_of opening f R).out g r) passes_tag.1 s'
+  same_tag : (o : Option (List ℕ)) → Tested f R.header R.body T' (rows_of opening f R).out o → Tested f R.header R.body T (rows_of opening f R).out o
+  same_tag o s = subst (λ (u : List ℕ). Tested f R.header R.body u (rows_of opening f R).out o) passes_tag.1 s
 
-  pub opening_accepts : (len : ℕ) (q l : List ℕ) (j : ℕ) → r ≡ true → len ≡ ends R.body → length g ≡ 16 → j ≡ len → q ≡ take j g → l ≡ take 16 (q ++ replicate 16 0)
+  pub opening_accepts : (len : ℕ) (g q l : List ℕ) (j : ℕ) → Tested f R.header R.body T' (rows_of opening f R).out (Some g) → len ≡ ends R.body → length g ≡ 16 → j ≡ len → q ≡ take j g → l ≡ take 16 (q ++ replicate 16 0)
       → OpenedBy (end_check (length R.body) (length T)) f R T l (Ok len)
-  opening_accepts len q l j re le gl je qe e = rw (taken_some, sixteen) (open_finished f L R t lim len le g q l j gl je qe e T tag_block oe r s re)
+  opening_accepts len g q l j s le gl je qe e = rw (taken_some, sixteen) (open_finished f L R t lim len le g q l j gl je qe e T tag_block oe (same_tag (Some g) s))
 
-  pub opening_refuses : r ≡ false → OpenedBy (end_check (length R.body) (length T)) f R T (replicate 16 0) (Err (record { fault = Forged; place = total }))
-  opening_refuses re =
-      rw (taken_some, sixteen)
-      (open_refused f L R t oe lim T (rows_of opening f R).out g r s (replicate 16 0) (record { fault = Forged; place = total }) re refl (ap (λ n. record { fault = Forged; place = n }) te))
+  pub opening_refuses : Tested f R.header R.body T' (rows_of opening f R).out None → OpenedBy (end_check (length R.body) (length T)) f R T (replicate 16 0) (Err (record { fault = Forged; place = total }))
+  opening_refuses s =
+      rw (taken_some, sixteen) (open_refused f L R t oe lim T (rows_of opening f R).out (same_tag None s) (replicate 16 0) (record { fault = Forged; place = total }) refl (ap (λ n. record { fault = Forged; place = n }) te))

@@ -1,5 +1,5 @@
 -- Checks that are passed.
-use Rattle.std.proofs.Common.{◌≡◌, ℕ, Bool, true, false, cond, eqb, ltb, Some, None, Ok, Option, refl, arith}
+use Rattle.std.proofs.Common.{◌≡◌, ℕ, Bool, true, false, cond, eqb, ltb, Some, None, Ok, Option, refl}
 use Rattle.fault.specs.declared.kinds.SessionFault.{SessionFault}
 use Rattle.fault.specs.declared.kinds.Placed.{Placed}
 use Rattle.session.specs.Calls.{body_checks, answered}
@@ -7,15 +7,15 @@ use Rattle.session.specs.Calls.{body_checks, answered}
 -- an answer comes only where no check fails
 pub answered_ok : {F X : Type 0} (o : Option (Placed F)) (x y : X) → Ok y ≡ answered o x → (o ≡ None) × (y ≡ x)
 answered_ok None x y e = (refl, cc)
-answered_ok (Some f) x y e = let z : ◌≡◌ {A = ℕ} 0 1 = cc in absurd (omega arith)
+answered_ok (Some f) x y e = absurd cc
 
 first_none : {F : Type 0} (t : Bool) (e : F) (rest : Option F) → cond t (Some e) rest ≡ None → (t ≡ false) × (rest ≡ None)
-first_none true e rest p = let z : ◌≡◌ {A = ℕ} 0 1 = cc in absurd (omega arith)
+first_none true e rest p = absurd cc
 first_none false e rest p = (refl, p)
 
 pub only_none : {F : Type 0} (t : Bool) (e : F) → cond t None (Some e) ≡ None → t ≡ true
 only_none true e p = refl
-only_none false e p = let z : ◌≡◌ {A = ℕ} 0 1 = cc in absurd (omega arith)
+only_none false e p = cc
 
 -- the checks, passed
 pub record Passed (h b r : ℕ) : Type 0 where

@@ -1,7 +1,6 @@
 -- Calls of a written session, one after another.
 use Rattle.std.proofs.Common.{◌≡◌, ℕ, ◌+◌, ◌<◌, List, [], ◌∷◌, ◌++◌, length, get_or, take, vec_items, sym, refl, ap, ◌∙◌, append_assoc, append-nil}
 use Rattle.std.proofs.lemmas.List.{take_more}
-use Rattle.poet.specs.Functions.{Functions}
 use Rattle.suite.specs.declared.Suite as suite
 use Rattle.suite.specs.declared.Permutation as permutation
 use Rattle.suite.specs.declared.ChainingHash as hash
@@ -10,9 +9,9 @@ use Rattle.session.specs.declared.logs.Played.{Played}
 use Rattle.session.specs.declared.script.Answer.TheVariants.{Header}
 use Rattle.session.specs.declared.script.Stretch.{Stretch}
 use Rattle.session.specs.declared.types.Heading.{Heading}
-use Rattle.session.specs.declared.types.Core.{Core}
+use Rattle.session.specs.declared.rows.Way as way
+use Rattle.session.specs.declared.types.Session.{Session}
 use Rattle.session.specs.Calls.{answered}
-use Rattle.session.specs.Directions.{Direction}
 use Rattle.session.specs.Sessions.{header_check}
 use Rattle.session.specs.Scripts.{taken, body_check_of, body_answer, headers_taken, header_answers, bodies_taken, body_answers}
 use Rattle.session.specs.Playing.{HeaderPlayed, BodyPlayed}
@@ -33,12 +32,12 @@ body_answers_append : (M : List ℕ) (ss ts : List Stretch) → body_answers M (
 body_answers_append M [] ts = refl
 body_answers_append M (s ∷ ss) ts = ap (λ bs. body_answer (length M) s ∷ bs) (body_answers_append (taken (body_check_of (length M) s) M s.bytes.now) ss ts)
 
-module _ {A B C D : Type 0} {u : suite.Ghosts A B C D} (x : permutation.Ghosts B) (y : hash.Ghosts C) (z : digest.Ghosts D) (under : List ℕ → Functions) where
-  pub headers_none : (p : Played) (s : Heading A B C D u x y z) → HeaderPlayed x y z under [] p p s s
+module _ {A B C D : Type 0} {u : suite.Ghosts A B C D} {x : permutation.Ghosts B} {y : hash.Ghosts C} {z : digest.Ghosts D} where
+  pub headers_none : (p : Played) (s : Heading A B C D u x y z) → HeaderPlayed [] p p s s
   headers_none p s = record { at = λ key a. a; header = λ key a. refl; answers = λ key a. sym (append-nil (vec_items p.answers)) }
 
-  pub headers_more : (ts : List Stretch) (i : ℕ) (d : Stretch) (p p' p'' : Played) (s s' s'' : Heading A B C D u x y z) → i < length ts → HeaderPlayed x y z under (take i ts) p p' s s' → HeaderPlayed x y z under (get_or ts i d ∷ []) p' p'' s' s''
-      → HeaderPlayed x y z under (take (i + 1) ts) p p'' s s''
+  pub headers_more : (ts : List Stretch) (i : ℕ) (d : Stretch) (p p' p'' : Played) (s s' s'' : Heading A B C D u x y z) → i < length ts → HeaderPlayed (take i ts) p p' s s' → HeaderPlayed (get_or ts i d ∷ []) p' p'' s' s''
+      → HeaderPlayed (take (i + 1) ts) p p'' s s''
   headers_more ts i d p p' p'' s s' s'' l a b =
       rw (take_more ts i d l) record {
         at = λ key h. b.at key (a.at key h);
@@ -51,12 +50,12 @@ module _ {A B C D : Type 0} {u : suite.Ghosts A B C D} (x : permutation.Ghosts B
             ∙ ap (λ bs. vec_items p.answers ++ bs) (sym (header_answers_append (vec_items p.header) (take i ts) (get_or ts i d ∷ [])));
       }
 
-module _ {A B C D : Type 0} {u : suite.Ghosts A B C D} {z : digest.Ghosts D} (x : permutation.Ghosts B) (y : hash.Ghosts C) (w : Direction) (under : List ℕ → Functions) where
-  pub bodies_none : (p : Played) (s : Core A B C D u x y z) → BodyPlayed x y w under [] p p s s
+module _ {A W B C D : Type 0} {u : suite.Ghosts A B C D} {x : permutation.Ghosts B} {y : hash.Ghosts C} {z : digest.Ghosts D} {w : way.Ghosts W} where
+  pub bodies_none : (p : Played) (s : Session A W B C D u x y z w) → BodyPlayed [] p p s s
   bodies_none p s = record { at = λ key a. a; header = refl; body = λ key a. refl; answers = λ key a. sym (append-nil (vec_items p.answers)) }
 
-  pub bodies_more : (ts : List Stretch) (i : ℕ) (d : Stretch) (p p' p'' : Played) (s s' s'' : Core A B C D u x y z) → i < length ts → BodyPlayed x y w under (take i ts) p p' s s' → BodyPlayed x y w under (get_or ts i d ∷ []) p' p'' s' s''
-      → BodyPlayed x y w under (take (i + 1) ts) p p'' s s''
+  pub bodies_more : (ts : List Stretch) (i : ℕ) (d : Stretch) (p p' p'' : Played) (s s' s'' : Session A W B C D u x y z w) → i < length ts → BodyPlayed (take i ts) p p' s s' → BodyPlayed (get_or ts i d ∷ []) p' p'' s' s''
+      → BodyPlayed (take (i + 1) ts) p p'' s s''
   bodies_more ts i d p p' p'' s s' s'' l a b =
       rw (take_more ts i d l) record {
         at = λ key h. b.at key (a.at key h);

@@ -1,8 +1,9 @@
 -- Rows that are run one after another, each block written where it belongs.
-use Rattle.std.proofs.Common.{◌≡◌, ℕ, ◌+◌, ◌*◌, ◌≤◌, List, ◌++◌, length, drop, sym, refl, ap, ◌∙◌, add-one, arith}
+use Rattle.std.proofs.Common.{◌≡◌, ℕ, ◌+◌, ◌*◌, ◌≤◌, List, ◌++◌, length, take, drop, replicate, sym, refl, ap, ◌∙◌, add-one, arith}
 use borrow.Rule.Slice.PartMut.{put_mid}
 use Rattle.std.proofs.lemmas.Slice.{take-put_mid, drop-put_mid}
-use Rattle.std.proofs.lemmas.List.{drop-drop}
+use Rattle.std.proofs.Math.Seq.{drop-append-add}
+use Rattle.std.proofs.lemmas.List.{drop-drop, take_at, length-drop, length-take-le, length-append}
 use Rattle.poet.specs.Bytes.{block}
 use Rattle.poet.specs.Rows.{State, takes, gives, next, rows}
 use Rattle.session.specs.Steps.{lanes, Stepped, Ran}
@@ -33,3 +34,17 @@ ran_more e c x y a o n x' y' o' r b x'' y'' g w k s be we ke lw lo room =
           drop-put_mid (16 * n) k o' w (16 * (n + 1)) (omega arith) (omega arith) (omega arith)
           ∙ (ap (λ z. drop z o') e16 ∙ (sym (drop-drop 16 (16 * n) o') ∙ (ap (λ z. drop 16 z) r.rest ∙ (drop-drop 16 (16 * n) o ∙ ap (λ z. drop z o) (sym e16)))));
     }
+
+-- what completes the next block stands in i
+pub more_fits : (a h i : List ℕ) (n : ℕ) → h ++ i ≡ drop (16 * n) a → 16 * (n + 1) ≤ length a → 16 ≤ length h + length i
+more_fits a h i n e room = omega (arith, length-append h i, ap length e, length-drop (16 * n) a)
+
+-- One block more: h is held and i comes behind it, and both are what n blocks leave of a. Filled up from i, h is the next block, and the
+-- rest of i is what is left then.
+pub block_next : (a h i b : List ℕ) (n k : ℕ) → h ++ i ≡ drop (16 * n) a → k + length h ≡ 16 → 16 * (n + 1) ≤ length a → b ≡ take 16 (h ++ i) → (take 16 (b ++ replicate 16 0) ≡ block n a) × (drop k i ≡ drop (16 * (n + 1)) a)
+block_next a h i b n k e ke room be =
+    let l : length b ≡ 16 = ap length be ∙ length-take-le 16 (h ++ i) (omega (arith, length-append h i, more_fits a h i n e room)) in
+    let m : 16 * n + 16 ≡ 16 * (n + 1) = omega arith in (
+      take_at b (replicate 16 0) 16 l ∙ be ∙ ap (take 16) e,
+      sym (drop-append-add h i k) ∙ ap (λ j. drop j (h ++ i)) (let j : length h + k ≡ 16 = omega arith in j) ∙ ap (drop 16) e ∙ drop-drop 16 (16 * n) a ∙ ap (λ j. drop j a) m,
+    )

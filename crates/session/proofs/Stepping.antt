@@ -1,9 +1,9 @@
 -- One call of a written session.
-use Rattle.std.proofs.Common.{◌≡◌, ℕ, ◌+◌, ◌-◌, List, [], ◌∷◌, ◌++◌, length, take, Some, None, Ok, Err, vec_items, Option, sym, refl, ap, ◌∙◌, subst, arith}
+use Rattle.std.proofs.Common.{◌≡◌, ℕ, ◌+◌, List, [], ◌∷◌, ◌++◌, length, Some, None, vec_items, Option, Result, sym, refl, ap, ◌∙◌, subst, arith, append-nil}
 use Rattle.fault.specs.declared.kinds.SessionFault.{SessionFault}
 use Rattle.fault.specs.declared.kinds.Placed.{Placed}
 use Rattle.poet.specs.Bytes.{Block}
-use Rattle.poet.specs.Functions.{Functions, Lawful}
+use Rattle.poet.specs.Functions.{Lawful}
 use Rattle.suite.specs.declared.Suite as suite
 use Rattle.suite.specs.declared.Permutation as permutation
 use Rattle.suite.specs.declared.ChainingHash as hash
@@ -12,112 +12,92 @@ use Rattle.session.specs.declared.logs.Played.{Played}
 use Rattle.session.specs.declared.script.Answer.TheVariants.{Header, Body}
 use Rattle.session.specs.declared.script.Stretch.{Stretch}
 use Rattle.session.specs.declared.types.Heading.{Heading}
-use Rattle.session.specs.declared.types.Core.{Core}
+use Rattle.session.specs.declared.rows.Way as way
+use Rattle.session.specs.declared.types.Given.{Given}
+use Rattle.session.specs.declared.types.Session.{Session}
 use Rattle.session.specs.Calls.{answered}
-use Rattle.session.specs.Directions.{Direction}
-use Rattle.session.specs.Runs.{Run, headed, bodied}
-use Rattle.session.specs.Sessions.{HeadingAt, HeaderBy, header_check, CoreAt, BodyBy, BodyTaken, body_check, held, writes}
+use Rattle.session.specs.Runs.{Run}
+use Rattle.session.specs.Sessions.{HeadingAt, HeaderBy, header_check, SessionAt, BodyBy, body_check, held, given_of}
 use Rattle.session.specs.Scripts.{run_of, taken, held_of, body_check_of}
+use Rattle.session.specs.Logs.{kept, written_of, HeaderKept, BodyKept}
 use Rattle.session.specs.Playing.{HeaderPlayed, BodyPlayed}
-use Rattle.session.proofs.Calling.{ok_err}
 use Rattle.session.proofs.Stretches.{out_length}
-use Rattle.session.proofs.Straights.{pair_first}
 
-module _ {A B C D : Type 0} {u : suite.Ghosts A B C D} (x : permutation.Ghosts B) (y : hash.Ghosts C) (z : digest.Ghosts D) (under : List ℕ → Functions) where
-  heeded : (o : Option (Placed SessionFault)) (R : Run) (P : List ℕ) (s s' : Heading A B C D u x y z) → HeaderBy o x y z under R P s s' (Ok tt) → (o ≡ None) × HeadingAt x y z under (headed R P) s'
-  heeded None R P s s' h = (refl, h.1)
-  heeded (Some e) R P s s' h = absurd (ok_err h.0)
+kept_taken : {X : Type 0} (o : Option (Placed SessionFault)) (v : X) (H P : List ℕ) → H ++ kept (answered o v) P ≡ taken o H P
+kept_taken None v H P = refl
+kept_taken (Some e) v H P = append-nil H
 
-  refused : (o : Option (Placed SessionFault)) (R : Run) (P : List ℕ) (s s' : Heading A B C D u x y z) (e : Placed SessionFault) → HeaderBy o x y z under R P s s' (Err e) → (o ≡ Some e) × (s' ≡ s)
-  refused None R P s s' e h = absurd (ok_err (sym h.0))
-  refused (Some f) R P s s' e h = (cc h.0, h.1)
+module _ {A B C D : Type 0} {u : suite.Ghosts A B C D} {x : permutation.Ghosts B} {y : hash.Ghosts C} {z : digest.Ghosts D} where
+  header_answer : (o : Option (Placed SessionFault)) (R : Run) (P : List ℕ) (s s' : Heading A B C D u x y z) (r : Result (Unit {0}) (Placed SessionFault)) → HeaderBy o R P s s' r → r ≡ answered o tt
+  header_answer None R P s s' r h = h.0
+  header_answer (Some e) R P s s' r h = h.0
 
-  -- a header call that was heeded, and one that was refused
-  pub header_heeded : (t : Stretch) (p p' : Played) (s s' : Heading A B C D u x y z) → p'.body ≡ p.body → p'.out ≡ p.out
-      → ((key : List ℕ) → HeadingAt x y z under (run_of key p) s → HeaderBy (header_check (length (vec_items p.header)) (length t.bytes.now)) x y z under (run_of key p) t.bytes.now s s' (Ok tt))
-      → vec_items p'.header ≡ vec_items p.header ++ t.bytes.now → vec_items p'.answers ≡ vec_items p.answers ++ Header (Ok tt) ∷ [] → HeaderPlayed x y z under (t ∷ []) p p' s s'
-  header_heeded t p p' s s' be oe h he ae =
+  header_stands : (o : Option (Placed SessionFault)) (R : Run) (P : List ℕ) (s s' : Heading A B C D u x y z) (r : Result (Unit {0}) (Placed SessionFault)) → HeaderBy o R P s s' r → HeadingAt R s
+      → HeadingAt (record { key = R.key; header = taken o R.header P; body = R.body; out = R.out }) s'
+  header_stands None R P s s' r h a = h.1
+  header_stands (Some e) R P s s' r h a = subst (HeadingAt R) (sym h.1) a
+
+  -- a header call that answered r: the log p became p'
+  pub header_played : (t : Stretch) (p p' : Played) (s s' : Heading A B C D u x y z) (r : Result (Unit {0}) (Placed SessionFault))
+      → ((key : List ℕ) → HeadingAt (run_of key p) s → HeaderBy (header_check (length (vec_items p.header)) (length t.bytes.now)) (run_of key p) t.bytes.now s s' r) → HeaderKept r t.bytes.now p p'
+      → HeaderPlayed (t ∷ []) p p' s s'
+  header_played t p p' s s' r h K =
       let H = vec_items p.header in
-      let c : Option (Placed SessionFault) = header_check (length H) (length t.bytes.now) in
-      let run : (key : List ℕ) → headed (run_of key p) t.bytes.now ≡ run_of key p' = λ key. cc in
+      let P = t.bytes.now in
+      let o : Option (Placed SessionFault) = header_check (length H) (length P) in
+      let answer : (key : List ℕ) → HeadingAt (run_of key p) s → r ≡ answered o tt = λ key a. header_answer o (run_of key p) P s s' r (h key a) in
+      let header : (key : List ℕ) → HeadingAt (run_of key p) s → vec_items p'.header ≡ taken o H P = λ key a. K.header ∙ ap (λ i. H ++ kept i P) (answer key a) ∙ kept_taken o tt H P in
       record {
-        at = λ key a. subst (λ (R : Run). HeadingAt x y z under R s') (run key) (heeded c (run_of key p) t.bytes.now s s' (h key a)).1;
-        header = λ key a. he ∙ ap (λ o. taken o H t.bytes.now) (sym (heeded c (run_of key p) t.bytes.now s s' (h key a)).0);
-        answers = λ key a. ae ∙ ap (λ o. vec_items p.answers ++ Header (answered o tt) ∷ []) (sym (heeded c (run_of key p) t.bytes.now s s' (h key a)).0);
+        at =
+            λ key a.
+            let e = header key a in
+            let b = K.body in
+            let w = K.out in
+            let run : (record { key = key; header = taken o H P; body = vec_items p.body; out = vec_items p.out }) ≡ run_of key p' = cc in
+            subst (λ (R : Run). HeadingAt R s') run (header_stands o (run_of key p) P s s' r (h key a) a);
+        header = header;
+        answers = λ key a. K.answers ∙ ap (λ i. vec_items p.answers ++ Header i ∷ []) (answer key a);
       }
 
-  pub header_refused : (t : Stretch) (p p' : Played) (s s' : Heading A B C D u x y z) (e : Placed SessionFault) → p'.header ≡ p.header → p'.body ≡ p.body → p'.out ≡ p.out
-      → ((key : List ℕ) → HeadingAt x y z under (run_of key p) s → HeaderBy (header_check (length (vec_items p.header)) (length t.bytes.now)) x y z under (run_of key p) t.bytes.now s s' (Err e))
-      → vec_items p'.answers ≡ vec_items p.answers ++ Header (Err e) ∷ [] → HeaderPlayed x y z under (t ∷ []) p p' s s'
-  header_refused t p p' s s' e he be oe h ae =
-      let H = vec_items p.header in
-      let c : Option (Placed SessionFault) = header_check (length H) (length t.bytes.now) in
-      let run : (key : List ℕ) → run_of key p ≡ run_of key p' = λ key. cc in
-      record {
-        at = λ key a. subst (λ (R : Run). HeadingAt x y z under R s') (run key) (subst (HeadingAt x y z under (run_of key p)) (sym (refused c (run_of key p) t.bytes.now s s' e (h key a)).1) a);
-        header = λ key a. ap vec_items he ∙ ap (λ o. taken o H t.bytes.now) (sym (refused c (run_of key p) t.bytes.now s s' e (h key a)).0);
-        answers = λ key a. ae ∙ ap (λ o. vec_items p.answers ++ Header (answered o tt) ∷ []) (sym (refused c (run_of key p) t.bytes.now s s' e (h key a)).0);
-      }
+module _ {A W B C D : Type 0} {u : suite.Ghosts A B C D} {x : permutation.Ghosts B} {y : hash.Ghosts C} {z : digest.Ghosts D} {w : way.Ghosts W} where
+  body_answer_is : (o : Option (Placed SessionFault)) (R : Run) (P b b' : List ℕ) (s s' : Session A W B C D u x y z w) (r : Result Given (Placed SessionFault)) → BodyBy o R P b b' s s' r → r ≡ answered o (given_of (held R + length P))
+  body_answer_is None R P b b' s s' r h = h.answer
+  body_answer_is (Some e) R P b b' s s' r h = h.0
 
-module _ {A B C D : Type 0} {u : suite.Ghosts A B C D} {z : digest.Ghosts D} (x : permutation.Ghosts B) (y : hash.Ghosts C) (w : Direction) (under : List ℕ → Functions) (L : (key : List ℕ) → Block key → Lawful (under key)) where
-  -- the bytes held back, by the rule and by the run
-  pub held_same : (R : Run) (s : Core A B C D u x y z) → CoreAt x y w under R s → held R ≡ held_of (length R.body)
-  held_same R s a = let o = out_length (under R.key) (L R.key a.taken.key_block) w R a.taken.header_bytes a.taken.body_bytes a.out_is in omega arith
+  body_stands : (o : Option (Placed SessionFault)) (R : Run) (P b b' : List ℕ) (s s' : Session A W B C D u x y z w) (r : Result Given (Placed SessionFault)) → BodyBy o R P b b' s s' r → SessionAt R s
+      → SessionAt (record { key = R.key; header = R.header; body = taken o R.body P; out = R.out ++ written_of (answered o (given_of (held R + length P))) b' }) s'
+  body_stands None R P b b' s s' r h a = h.at
+  body_stands (Some e) R P b b' s s' r h a =
+      let run : R ≡ record { key = R.key; header = R.header; body = R.body; out = R.out ++ [] } = ap (λ (o : List ℕ). record { key = R.key; header = R.header; body = R.body; out = o }) (sym (append-nil R.out)) in
+      subst (λ (Q : Run). SessionAt Q s') run (subst (SessionAt R) (sym h.1) a)
 
-  body_heeds : (o : Option (Placed SessionFault)) (R : Run) (P b b' : List ℕ) (s s' : Core A B C D u x y z) (r : ℕ × ℕ) → BodyBy o x y w under R P b b' s s' (Ok r) → (o ≡ None) × BodyTaken x y w under R P b b' s' (Ok r)
-  body_heeds None R P b b' s s' r h = (refl, h)
-  body_heeds (Some e) R P b b' s s' r h = absurd (ok_err h.0)
+  module _ (L : (key : List ℕ) → Block key → Lawful (u.under key)) where
+    -- the bytes held back, by the rule and by the run
+    pub held_same : (R : Run) (s : Session A W B C D u x y z w) → SessionAt R s → held R ≡ held_of (length R.body)
+    held_same R s a = let o = out_length (u.under R.key) (L R.key a.taken.key_block) w.way R a.taken.header_bytes a.taken.body_bytes a.out_is in omega arith
 
-  body_refuses : (o : Option (Placed SessionFault)) (R : Run) (P b b' : List ℕ) (s s' : Core A B C D u x y z) (e : Placed SessionFault) → BodyBy o x y w under R P b b' s s' (Err e) → (o ≡ Some e) × (s' ≡ s)
-  body_refuses None R P b b' s s' e h = absurd (ok_err (sym h.answer))
-  body_refuses (Some f) R P b b' s s' e h = (cc h.0, h.1)
-
-  module _ (t : Stretch) (p p' : Played) (s s' : Core A B C D u x y z) (b b' : List ℕ) (room : length b ≡ t.room) where
-    P : List ℕ
-    P = t.bytes.now
-
-    -- the check of the call, and of the script
-    check_same : (key : List ℕ) → CoreAt x y w under (run_of key p) s → body_check (length (vec_items p.body)) (held (run_of key p)) (length P) (length b) ≡ body_check_of (length (vec_items p.body)) t
-    unfolding P
-    check_same key a = rw (held_same (run_of key p) s a, room)
-
-    pub body_heeded : (n m : ℕ) → p'.header ≡ p.header
-        → ((key : List ℕ) → CoreAt x y w under (run_of key p) s → BodyBy (body_check (length (vec_items p.body)) (held (run_of key p)) (length t.bytes.now) (length b)) x y w under (run_of key p) t.bytes.now b b' s s' (Ok (n, m)))
-        → vec_items p'.body ≡ vec_items p.body ++ t.bytes.now → vec_items p'.out ≡ vec_items p.out ++ take n b' → vec_items p'.answers ≡ vec_items p.answers ++ Body (Ok (n, m)) ∷ [] → BodyPlayed x y w under (t ∷ []) p p' s s'
-    unfolding P
-    body_heeded n m he h be oe ae =
+    -- a body call that answered r and wrote b' over b: the log p became p'
+    pub body_played : (t : Stretch) (p p' : Played) (s s' : Session A W B C D u x y z w) (b b' : List ℕ) (r : Result Given (Placed SessionFault)) → length b ≡ t.room
+        → ((key : List ℕ) → SessionAt (run_of key p) s → BodyBy (body_check (length (vec_items p.body)) (held (run_of key p)) (length t.bytes.now) (length b)) (run_of key p) t.bytes.now b b' s s' r) → BodyKept r t.bytes.now b' p p'
+        → BodyPlayed (t ∷ []) p p' s s'
+    body_played t p p' s s' b b' r room h K =
         let M = vec_items p.body in
-        let q : (key : List ℕ) → CoreAt x y w under (run_of key p) s → (body_check (length M) (held (run_of key p)) (length P) (length b) ≡ None) × BodyTaken x y w under (run_of key p) P b b' s' (Ok (n, m)) =
-        λ key a. body_heeds (body_check (length M) (held (run_of key p)) (length P) (length b)) (run_of key p) P b b' s s' (n, m) (h key a) in
+        let P = t.bytes.now in
+        let o : Option (Placed SessionFault) = body_check_of (length M) t in
+        let by : (key : List ℕ) → SessionAt (run_of key p) s → BodyBy o (run_of key p) P b b' s s' r = λ key a. rw (held_same (run_of key p) s a, room) at (h key a) in
+        let answer : (key : List ℕ) → SessionAt (run_of key p) s → r ≡ answered o (given_of (held_of (length M) + length P)) =
+        λ key a. body_answer_is o (run_of key p) P b b' s s' r (by key a) ∙ ap (λ n. answered o (given_of (n + length P))) (held_same (run_of key p) s a) in
+        let body : (key : List ℕ) → SessionAt (run_of key p) s → vec_items p'.body ≡ taken o M P = λ key a. K.body ∙ ap (λ i. M ++ kept i P) (answer key a) ∙ kept_taken o _ M P in
         record {
           at =
               λ key a.
-              let T = (q key a).1 in
-              let ne = pair_first T.answer in
-              let run : bodied (run_of key p) P (take (writes (held (run_of key p) + length P)) b') ≡ run_of key p' = cc in
-              subst (λ (R : Run). CoreAt x y w under R s') run T.at;
-          header = ap vec_items he;
-          body = λ key a. be ∙ ap (λ o. taken o M P) (sym (q key a).0 ∙ check_same key a);
-          answers =
-              λ key a.
-              ae
-              ∙ ap (λ r. vec_items p.answers ++ Body r ∷ [])
-              ((q key a).1.answer ∙ ap (λ h. Ok (writes (h + length P), h + length P - writes (h + length P))) (held_same (run_of key p) s a)
-              ∙ ap (λ o. answered o (writes (held_of (length M) + length P), held_of (length M) + length P - writes (held_of (length M) + length P))) (sym (q key a).0 ∙ check_same key a));
-        }
-
-    pub body_refused : (e : Placed SessionFault) → p'.header ≡ p.header → p'.body ≡ p.body → p'.out ≡ p.out
-        → ((key : List ℕ) → CoreAt x y w under (run_of key p) s → BodyBy (body_check (length (vec_items p.body)) (held (run_of key p)) (length t.bytes.now) (length b)) x y w under (run_of key p) t.bytes.now b b' s s' (Err e))
-        → vec_items p'.answers ≡ vec_items p.answers ++ Body (Err e) ∷ [] → BodyPlayed x y w under (t ∷ []) p p' s s'
-    unfolding P
-    body_refused e he be oe h ae =
-        let M = vec_items p.body in
-        let q : (key : List ℕ) → CoreAt x y w under (run_of key p) s → (body_check (length M) (held (run_of key p)) (length P) (length b) ≡ Some e) × (s' ≡ s) =
-        λ key a. body_refuses (body_check (length M) (held (run_of key p)) (length P) (length b)) (run_of key p) P b b' s s' e (h key a) in
-        let run : (key : List ℕ) → run_of key p ≡ run_of key p' = λ key. cc in
-        record {
-          at = λ key a. subst (λ (R : Run). CoreAt x y w under R s') (run key) (subst (CoreAt x y w under (run_of key p)) (sym (q key a).1) a);
-          header = ap vec_items he;
-          body = λ key a. ap vec_items be ∙ ap (λ o. taken o M P) (sym (q key a).0 ∙ check_same key a);
-          answers = λ key a. ae ∙ ap (λ o. vec_items p.answers ++ Body (answered o (writes (held_of (length M) + length P), held_of (length M) + length P - writes (held_of (length M) + length P))) ∷ []) (sym (q key a).0 ∙ check_same key a);
+              let R = run_of key p in
+              let e = body key a in
+              let k = K.header in
+              let n : vec_items p'.out ≡ vec_items p.out ++ written_of (answered o (given_of (held R + length P))) b' = K.out ∙ ap (λ i. vec_items p.out ++ written_of i b') (body_answer_is o R P b b' s s' r (by key a)) in
+              let run : (record { key = key; header = vec_items p.header; body = taken o M P; out = vec_items p.out ++ written_of (answered o (given_of (held R + length P))) b' }) ≡ run_of key p' = cc in
+              subst (λ (Q : Run). SessionAt Q s') run (body_stands o R P b b' s s' r (by key a) a);
+          header = ap vec_items K.header;
+          body = body;
+          answers = λ key a. K.answers ∙ ap (λ i. vec_items p.answers ++ Body i ∷ []) (answer key a);
         }

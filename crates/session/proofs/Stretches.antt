@@ -1,5 +1,5 @@
 -- A body call: from where the rows stood, what it brings and what it writes, to where they stand.
-use Rattle.std.proofs.Common.{◌≡◌, ℕ, zero, suc, ◌+◌, ◌*◌, ◌≤◌, List, [], ◌++◌, length, take, drop, Ok, Result, sym, refl, ap, ◌∙◌, ap₂, append_assoc, append-nil, arith, length-drop, take_all, drop-drop}
+use Rattle.std.proofs.Common.{◌≡◌, ℕ, zero, suc, ◌+◌, ◌*◌, ◌≤◌, List, [], ◌++◌, length, take, drop, sym, refl, ap, ◌∙◌, ap₂, append_assoc, append-nil, arith, length-drop, take_all, drop-drop}
 use lib.Seq.{drop-append-le}
 use Rattle.poet.specs.Bytes.{Bytes, block}
 use Rattle.poet.specs.Functions.{Functions, Lawful}
@@ -62,13 +62,9 @@ module _ (e c : List ℕ → List ℕ) (s : State) (M P u : List ℕ) (n : ℕ) 
         ap₂ (λ a b. a ++ b) ge R.front ∙ sym (ap (λ (z : State). z.out) q),
       )
 
-  pub left : (h : List ℕ) (k : ℕ) → k + 16 * whole (M ++ P) ≡ length (M ++ P) → take k h ≡ take k (drop (16 * n) u) → take k h ≡ drop (16 * whole (M ++ P)) (M ++ P)
-  left h k ke he =
+  pub left : (h : List ℕ) → h ≡ take 16 (drop (16 * n) u) → h ≡ drop (16 * whole (M ++ P)) (M ++ P)
+  left h he =
       let l : 16 * whole M ≤ length M = omega arith in
       let d : drop (16 * n) u ≡ drop (16 * whole (M ++ P)) (M ++ P) =
       ap (drop (16 * n)) (ue ∙ sym (drop-append-le (16 * whole M) M P l)) ∙ drop-drop (16 * n) (16 * whole M) (M ++ P) ∙ ap (λ j. drop j (M ++ P)) (omega arith) in
-      he ∙ ap (take k) d ∙ take_all k (drop (16 * whole (M ++ P)) (M ++ P)) (omega (arith, length-drop (16 * whole (M ++ P)) (M ++ P)))
-
--- the pair that is answered
-pub answers : {E : Type 0} {g l g' l' : ℕ} → g ≡ g' → l ≡ l' → ◌≡◌ {A = Result (ℕ × ℕ) E} (Ok (g, l)) (Ok (g', l'))
-answers {E} p q = ap₂ (λ x y. Ok (x, y)) p q
+      he ∙ ap (take 16) d ∙ take_all 16 (drop (16 * whole (M ++ P)) (M ++ P)) (omega (arith, length-drop (16 * whole (M ++ P)) (M ++ P)))

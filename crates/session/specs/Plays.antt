@@ -18,11 +18,12 @@ use Rattle.session.specs.declared.script.Course.TheVariants.{Heading, Seal, Open
 use Rattle.session.specs.declared.script.End.{End}
 use Rattle.session.specs.declared.script.End.TheVariants.{Unfinished, Sealed, Opened}
 use Rattle.session.specs.declared.script.Stretch.{Stretch}
-use Rattle.session.specs.declared.types.Core.{Core}
+use Rattle.session.specs.declared.rows.Way as way
+use Rattle.session.specs.declared.types.Session.{Session}
 use Rattle.session.specs.Directions.{Direction, sealing, opening}
 use Rattle.session.specs.Runs.{Run}
 use Rattle.session.specs.Promise.{Blocks}
-use Rattle.session.specs.Sessions.{CoreAt, empty_check, end_check}
+use Rattle.session.specs.Sessions.{SessionAt, empty_check, end_check}
 use Rattle.session.specs.Scripts.{run_of, headers_taken, header_answers, bodies_taken, body_answers, held_of}
 
 -- Two runs under one key and header handed out the same first k blocks exactly when they took the same first k blocks.
@@ -85,8 +86,8 @@ CoursePlayed (Seal bodies fin) under key hs p e = SealPromise under key (headers
 CoursePlayed (Open bodies tag) under key hs p e = OpenPromise under key (headers_taken [] hs) [] (header_answers [] hs) bodies.now (tag_of tag) p e
 
 -- the same from where a session stood when its body calls began
-abbrev pub SealingPlayed : {A B C D : Type 0} {u : suite.Ghosts A B C D} {z : digest.Ghosts D} → (x : permutation.Ghosts B) → (y : hash.Ghosts C) → (List ℕ → Functions) → List Stretch → Bool → (p p' : Played) → End → Core A B C D u x y z → Type 0
-SealingPlayed x y under bs fin p p' e s = (key : List ℕ) → CoreAt x y sealing under (run_of key p) s → SealPromise under key (vec_items p.header) (vec_items p.body) (vec_items p.answers) bs fin p' e
+abbrev pub SealingPlayed : {A W B C D : Type 0} {u : suite.Ghosts A B C D} {x : permutation.Ghosts B} {y : hash.Ghosts C} {z : digest.Ghosts D} {w : way.Ghosts W} → List Stretch → Bool → (p p' : Played) → End → Session A W B C D u x y z w → Type 0
+SealingPlayed {u = u} bs fin p p' e s = (key : List ℕ) → SessionAt (run_of key p) s → SealPromise u.under key (vec_items p.header) (vec_items p.body) (vec_items p.answers) bs fin p' e
 
-abbrev pub OpeningPlayed : {A B C D : Type 0} {u : suite.Ghosts A B C D} {z : digest.Ghosts D} → (x : permutation.Ghosts B) → (y : hash.Ghosts C) → (List ℕ → Functions) → List Stretch → Option (Bor (List ℕ)) → (p p' : Played) → End → Core A B C D u x y z → Type 0
-OpeningPlayed x y under bs tag p p' e s = (key : List ℕ) → CoreAt x y opening under (run_of key p) s → OpenPromise under key (vec_items p.header) (vec_items p.body) (vec_items p.answers) bs (tag_of tag) p' e
+abbrev pub OpeningPlayed : {A W B C D : Type 0} {u : suite.Ghosts A B C D} {x : permutation.Ghosts B} {y : hash.Ghosts C} {z : digest.Ghosts D} {w : way.Ghosts W} → List Stretch → Option (Bor (List ℕ)) → (p p' : Played) → End → Session A W B C D u x y z w → Type 0
+OpeningPlayed {u = u} bs tag p p' e s = (key : List ℕ) → SessionAt (run_of key p) s → OpenPromise u.under key (vec_items p.header) (vec_items p.body) (vec_items p.answers) bs (tag_of tag) p' e

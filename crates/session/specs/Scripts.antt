@@ -8,7 +8,7 @@ use Rattle.session.specs.declared.script.Answer.TheVariants.{Header, Body}
 use Rattle.session.specs.declared.script.Stretch.{Stretch}
 use Rattle.session.specs.Calls.{answered}
 use Rattle.session.specs.Runs.{Run}
-use Rattle.session.specs.Sessions.{header_check, body_check, writes}
+use Rattle.session.specs.Sessions.{header_check, body_check, writes, given_of}
 
 -- the run that was kept
 abbrev pub run_of : List ℕ → Played → Run
@@ -40,7 +40,7 @@ bodies_taken M [] = M
 bodies_taken M (s ∷ ss) = bodies_taken (taken (body_check_of (length M) s) M s.bytes.now) ss
 
 abbrev pub body_answer : ℕ → Stretch → Answer
-body_answer n s = let t : ℕ = held_of n + length s.bytes.now in Body (answered (body_check_of n s) (writes t, t - writes t))
+body_answer n s = Body (answered (body_check_of n s) (given_of (held_of n + length s.bytes.now)))
 
 abbrev pub body_answers : List ℕ → List Stretch → List Answer
 body_answers M [] = []

@@ -12,7 +12,9 @@ use Rattle.suite.specs.declared.Permutation as permutation
 use Rattle.suite.specs.declared.ChainingHash as hash
 use Rattle.suite.specs.declared.HeaderDigest as digest
 use Rattle.session.specs.declared.types.Heading.{Heading}
-use Rattle.session.specs.declared.types.Core.{Core}
+use Rattle.session.specs.declared.rows.Way as way
+use Rattle.session.specs.declared.types.Given.{Given}
+use Rattle.session.specs.declared.types.Session.{Session}
 use Rattle.session.specs.Engines.{EngineAt}
 use Rattle.session.specs.Calls.{tag_check}
 use Rattle.session.specs.Directions.{Direction, sealing, opening, picks, turns}
@@ -27,37 +29,37 @@ pub record Taken (R : Run) : Type 0 where
   pub body_bytes : Bytes R.body
 
 -- the heading s stands at the run R
-pub record HeadingAt {A B C D : Type 0} {u : suite.Ghosts A B C D} (p : permutation.Ghosts B) (h : hash.Ghosts C) (d : digest.Ghosts D) (under : List ℕ → Functions) (R : Run) (s : Heading A B C D u p h d) : Type 0 where
+pub record HeadingAt {A B C D : Type 0} {u : suite.Ghosts A B C D} {p : permutation.Ghosts B} {h : hash.Ghosts C} {d : digest.Ghosts D} (R : Run) (s : Heading A B C D u p h d) : Type 0 where
   pub taken : Taken R
   pub no_body : R.body ≡ []
   pub no_out : R.out ≡ []
-  pub enc_is : p.enc s.permutation ≡ (under R.key).enc
-  pub dec_is : p.dec s.permutation ≡ (under R.key).dec
-  pub chain_is : h.chain s.hash ≡ (under R.key).chain
-  pub rule_is : (r : List ℕ) → d.rule s.digest r ≡ (under R.key).dig (R.header ++ r)
+  pub enc_is : p.enc s.permutation ≡ (u.under R.key).enc
+  pub dec_is : p.dec s.permutation ≡ (u.under R.key).dec
+  pub chain_is : h.chain s.hash ≡ (u.under R.key).chain
+  pub rule_is : (r : List ℕ) → d.rule s.digest r ≡ (u.under R.key).dig (R.header ++ r)
   pub count_is : s.count ≡ length R.header
 
 -- the rows of a run
 abbrev pub rows_of : (w : Direction) (f : Functions) → Run → State
 rows_of w f R = rows (picks w f.enc f.dec) f.chain (whole R.body) (turns w (start f R.header)) R.body
 
--- the core s of a sealing or an opening stands at the run R
-pub record CoreAt {A B C D : Type 0} {u : suite.Ghosts A B C D} {d : digest.Ghosts D} (p : permutation.Ghosts B) (h : hash.Ghosts C) (w : Direction) (under : List ℕ → Functions) (R : Run) (s : Core A B C D u p h d) : Type 0 where
+-- the session s stands at the run R
+pub record SessionAt {A W B C D : Type 0} {u : suite.Ghosts A B C D} {p : permutation.Ghosts B} {h : hash.Ghosts C} {d : digest.Ghosts D} {w : way.Ghosts W} (R : Run) (s : Session A W B C D u p h d w) : Type 0 where
   pub taken : Taken R
-  pub engine : EngineAt p h (under R.key) R.header s.engine
-  pub x_is : s.lanes.taking ≡ (rows_of w (under R.key) R).x
-  pub y_is : s.lanes.giving ≡ (rows_of w (under R.key) R).y
-  pub out_is : R.out ≡ (rows_of w (under R.key) R).out
-  pub held_is : take s.len s.held ≡ drop (16 * whole R.body) R.body
+  pub engine : EngineAt p h (u.under R.key) R.header s.engine
+  pub x_is : s.lanes.taking ≡ (rows_of w.way (u.under R.key) R).x
+  pub y_is : s.lanes.giving ≡ (rows_of w.way (u.under R.key) R).y
+  pub out_is : R.out ≡ (rows_of w.way (u.under R.key) R).out
+  pub held_is : s.held ≡ drop (16 * whole R.body) R.body
   pub total_is : s.total ≡ length R.body
 
 -- A header call brings `more` bytes to `taken`.
 abbrev pub header_check : (taken more : ℕ) → Option (Placed SessionFault)
 header_check taken more = cond (nat_lt 65536 (taken + more)) (Some (record { fault = Header; place = taken })) None
 
-abbrev pub HeaderBy : {A B C D : Type 0} {u : suite.Ghosts A B C D} → Option (Placed SessionFault) → (p : permutation.Ghosts B) → (h : hash.Ghosts C) → (d : digest.Ghosts D) → (List ℕ → Functions) → Run → List ℕ → (s s' : Heading A B C D u p h d) → Result (Unit {0}) (Placed SessionFault) → Type 0
-HeaderBy (Some e) p h d under R P s s' r = (r ≡ Err e) × (s' ≡ s)
-HeaderBy None p h d under R P s s' r = (r ≡ Ok tt) × HeadingAt p h d under (headed R P) s'
+abbrev pub HeaderBy : {A B C D : Type 0} {u : suite.Ghosts A B C D} {p : permutation.Ghosts B} {h : hash.Ghosts C} {d : digest.Ghosts D} → Option (Placed SessionFault) → Run → List ℕ → (s s' : Heading A B C D u p h d) → Result (Unit {0}) (Placed SessionFault) → Type 0
+HeaderBy (Some e) R P s s' r = (r ≡ Err e) × (s' ≡ s)
+HeaderBy None R P s s' r = (r ≡ Ok tt) × HeadingAt (headed R P) s'
 
 -- A body call brings `more` bytes; with t the bytes held and brought it writes every whole block that at least one byte follows.
 abbrev pub writes : ℕ → ℕ
@@ -68,19 +70,23 @@ body_check taken held more room =
     cond (nat_lt 1048576 (taken + more)) (Some (record { fault = Body; place = taken }))
     (cond (nat_lt room (writes (held + more))) (Some (record { fault = Room; place = taken })) None)
 
+-- what it answers
+abbrev pub given_of : ℕ → Given
+given_of t = record { written = writes t; held = t - writes t }
+
 -- the bytes held back
 abbrev pub held : Run → ℕ
 held R = length R.body - length R.out
 
-pub record BodyTaken {A B C D : Type 0} {u : suite.Ghosts A B C D} {d : digest.Ghosts D} (p : permutation.Ghosts B) (h : hash.Ghosts C) (w : Direction) (under : List ℕ → Functions) (R : Run) (P o o' : List ℕ) (s' : Core A B C D u p h d) (r : Result (ℕ × ℕ) (Placed SessionFault)) : Type 0 where
-  pub answer : r ≡ Ok (writes (held R + length P), held R + length P - writes (held R + length P))
+pub record BodyTaken {A W B C D : Type 0} {u : suite.Ghosts A B C D} {p : permutation.Ghosts B} {h : hash.Ghosts C} {d : digest.Ghosts D} {w : way.Ghosts W} (R : Run) (P o o' : List ℕ) (s' : Session A W B C D u p h d w) (r : Result Given (Placed SessionFault)) : Type 0 where
+  pub answer : r ≡ Ok (given_of (held R + length P))
   pub rest : drop (writes (held R + length P)) o' ≡ drop (writes (held R + length P)) o
-  pub at : CoreAt p h w under (bodied R P (take (writes (held R + length P)) o')) s'
-  pub blocks : Blocks w (under R.key) (bodied R P (take (writes (held R + length P)) o'))
+  pub at : SessionAt (bodied R P (take (writes (held R + length P)) o')) s'
+  pub blocks : Blocks w.way (u.under R.key) (bodied R P (take (writes (held R + length P)) o'))
 
-abbrev pub BodyBy : {A B C D : Type 0} {u : suite.Ghosts A B C D} {d : digest.Ghosts D} → Option (Placed SessionFault) → (p : permutation.Ghosts B) → (h : hash.Ghosts C) → (w : Direction) → (List ℕ → Functions) → Run → (P o o' : List ℕ) → (s s' : Core A B C D u p h d) → Result (ℕ × ℕ) (Placed SessionFault) → Type 0
-BodyBy (Some e) p h w under R P o o' s s' r = (r ≡ Err e) × (s' ≡ s) × (o' ≡ o)
-BodyBy None p h w under R P o o' s s' r = BodyTaken p h w under R P o o' s' r
+abbrev pub BodyBy : {A W B C D : Type 0} {u : suite.Ghosts A B C D} {p : permutation.Ghosts B} {h : hash.Ghosts C} {d : digest.Ghosts D} {w : way.Ghosts W} → Option (Placed SessionFault) → Run → (P o o' : List ℕ) → (s s' : Session A W B C D u p h d w) → Result Given (Placed SessionFault) → Type 0
+BodyBy (Some e) R P o o' s s' r = (r ≡ Err e) × (s' ≡ s) × (o' ≡ o)
+BodyBy None R P o o' s s' r = BodyTaken R P o o' s' r
 
 -- A sealing's finish is refused where no body was taken. It writes zeros into its places l' and t' then. Else it hands out the last
 -- bytes, which were held back, and writes the tag: together the seal of the message taken.

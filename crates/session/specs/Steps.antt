@@ -1,5 +1,5 @@
 -- What the inner steps do, by the rows of the mode. Here e is E or D, c the chaining hash, and x and y stand where blocks come in and go out.
-use Rattle.std.specs.Prelude.{◌≡◌, ℕ, ◌-◌, ◌*◌, Bool, true, false, List, [], ◌++◌, take, drop}
+use Rattle.std.specs.Prelude.{◌≡◌, ℕ, ◌-◌, ◌*◌, List, [], ◌++◌, take, drop, Some, None, Option}
 use Rattle.poet.specs.Functions.{Functions}
 use Rattle.poet.specs.Rows.{State, takes, gives, rows, last, ends, zed, opening, opened}
 
@@ -33,8 +33,7 @@ pub record Tests (f : Functions) (H C T : List ℕ) : Type 0 where
   -- the tag ends with the front of Z
   pub check : drop (16 - ends C) T ≡ take (ends C) (zed f (f.dig H) (opening f H C T).y (opening f H C T).x)
 
--- the rows before the last gave G, the last one gave g, and r says whether the tests are passed
-pub record Tested (f : Functions) (H C T G g : List ℕ) (r : Bool) : Type 0 where
-  pub out : G ++ take (ends C) g ≡ opened f H C T
-  pub yes : r ≡ true → Tests f H C T
-  pub fails : r ≡ false → Tests f H C T → ⊥
+-- the rows before the last gave G; the last one gave g, if the tests are passed
+abbrev pub Tested : (f : Functions) (H C T G : List ℕ) → Option (List ℕ) → Type 0
+Tested f H C T G (Some g) = (G ++ take (ends C) g ≡ opened f H C T) × Tests f H C T
+Tested f H C T G None = Tests f H C T → ⊥

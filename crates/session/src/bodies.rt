@@ -1,24 +1,20 @@
-// The body call of a sealing and of an opening.
-ghost use Rattle.std.specs.Prelude.{length};
-ghost use Rattle.session.specs.Directions.{opening, sealing};
+// The body call, of a sealing as of an opening.
+ghost use Rattle.std.specs.Prelude.{◌≤◌, length, IfOk};
 ghost use Rattle.session.specs.Runs.{Run};
-ghost use Rattle.session.specs.Sessions.{BodyBy, CoreAt, body_check, held};
+ghost use Rattle.session.specs.Sessions.{BodyBy, SessionAt, body_check, held};
 
-use crate::blocks::joined;
 use crate::checks::BODY_MOST;
-use crate::rows::{Open, Seal, Way};
-use crate::types::{Core, Opening, Sealing};
+use crate::rows::Way;
+use crate::types::{Given, Session};
 use fault::kinds::{Placed, SessionFault};
 use suite::Suite;
 
-impl<S: Suite> Core<S> {
-    // Takes `input`, and writes to `out` every whole block that at least one byte follows. Answers the bytes written and the bytes held.
-    pub(crate) fn body<W: Way>(
-        &mut self,
-        input: &[u8],
-        out: &mut [u8],
-    ) -> Result<(usize, usize), Placed<SessionFault>>
-        ensures { (R : Run) → CoreAt S.Permutation.Permutation S.ChainingHash.ChainingHash W.Way.way S.Suite.under R self.old → BodyBy (body_check (length R.body) (held R) (length input.now) (length out.old)) S.Permutation.Permutation S.ChainingHash.ChainingHash W.Way.way S.Suite.under R input.now out.old out.new self.old self.new result }
+impl<S: Suite, W: Way> Session<S, W> {
+    // Takes a stretch of the message, or of an opening's ciphertext, and writes to `out` every whole block that at least one more byte
+    // follows.
+    pub fn body(&mut self, input: &[u8], out: &mut [u8]) -> Result<Given, Placed<SessionFault>>
+        ensures room { IfOk result (λ given. given.written ≤ length out.old) }
+        ensures call { (R : Run) → SessionAt R self.old → BodyBy (body_check (length R.body) (held R) (length input.now) (length out.old)) R input.now out.old out.new self.old self.new result }
     {
         if input.len() > BODY_MOST - self.total {
             return Err(Placed {
@@ -26,58 +22,22 @@ impl<S: Suite> Core<S> {
                 place: self.total,
             });
         }
-        let t = self.len + input.len();
+        let t = self.held.as_slice().len() + input.len();
         let n = t.saturating_sub(1) / 16;
-        let given = 16 * n;
-        if out.len() < given {
+        let written = 16 * n;
+        if out.len() < written {
             return Err(Placed {
                 fault: SessionFault::Room,
                 place: self.total,
             });
         }
-        let held = self.held;
-        let len = self.len;
-        let lanes = self.lanes;
-        self.lanes = lanes.run::<W, S::Permutation, S::ChainingHash>(
-            &self.engine.permutation,
-            &self.engine.hash,
-            &held,
-            len,
-            input,
-            out,
-            n,
-        );
-        let left = t - given;
-        self.held = joined(&held, len, input, given, left);
-        self.len = left;
+        self.lanes = self
+            .engine
+            .run::<W>(self.lanes, &mut self.held, input, out, n);
         self.total += input.len();
-        Ok((given, left))
-    }
-}
-
-impl<S: Suite> Sealing<S> {
-    // Takes a stretch of the message, and writes to `out` every whole block of the ciphertext that at least one more byte follows. Answers
-    // the bytes written and the bytes held.
-    pub fn body(
-        &mut self,
-        input: &[u8],
-        out: &mut [u8],
-    ) -> Result<(usize, usize), Placed<SessionFault>>
-        ensures { (R : Run) → CoreAt S.Permutation.Permutation S.ChainingHash.ChainingHash sealing S.Suite.under R self.old.core → BodyBy (body_check (length R.body) (held R) (length input.now) (length out.old)) S.Permutation.Permutation S.ChainingHash.ChainingHash sealing S.Suite.under R input.now out.old out.new self.old.core self.new.core result }
-    {
-        self.core.body::<Seal>(input, out)
-    }
-}
-
-impl<S: Suite> Opening<S> {
-    // The same of a stretch of the ciphertext and blocks of the message.
-    pub fn body(
-        &mut self,
-        input: &[u8],
-        out: &mut [u8],
-    ) -> Result<(usize, usize), Placed<SessionFault>>
-        ensures { (R : Run) → CoreAt S.Permutation.Permutation S.ChainingHash.ChainingHash opening S.Suite.under R self.old.core → BodyBy (body_check (length R.body) (held R) (length input.now) (length out.old)) S.Permutation.Permutation S.ChainingHash.ChainingHash opening S.Suite.under R input.now out.old out.new self.old.core self.new.core result }
-    {
-        self.core.body::<Open>(input, out)
+        Ok(Given {
+            written,
+            held: t - written,
+        })
     }
 }

@@ -1,28 +1,29 @@
 // The calls of a heading, and the start of a body.
 ghost use Rattle.std.specs.Prelude.{ℕ, List, length};
-ghost use Rattle.session.specs.Directions.{opening, sealing};
 ghost use Rattle.session.specs.Runs.{Run, fresh};
-ghost use Rattle.session.specs.Sessions.{CoreAt, HeaderBy, HeadingAt, header_check};
+ghost use Rattle.session.specs.Sessions.{HeaderBy, HeadingAt, SessionAt, header_check};
 
 use crate::checks::HEADER_MOST;
 use crate::engine::Engine;
 use crate::keys::KeyPlace;
-use crate::rows::{Open, Seal, Way};
-use crate::types::{Core, Heading, Opening, Sealing};
+use crate::rows::Way;
+use crate::types::{Heading, Opening, Sealing, Session};
+use buffer::Buffer;
 use fault::kinds::{Placed, SessionFault};
 use poet::xor;
+use std::marker::PhantomData;
 use suite::{HeaderDigest, Keyed, Suite};
 
 impl<S: Suite> Heading<S> {
     // A new session under the key that is in the place.
     pub fn new(place: &KeyPlace) -> Heading<S>
-        ensures { HeadingAt S.Permutation.Permutation S.ChainingHash.ChainingHash S.HeaderDigest.HeaderDigest S.Suite.under (fresh place.now.bytes) result }
+        ensures { HeadingAt (fresh place.now.bytes) result }
     {
         Heading::under(place.bytes)
     }
 
     fn under(key: [u8; 16]) -> Heading<S>
-        ensures { HeadingAt S.Permutation.Permutation S.ChainingHash.ChainingHash S.HeaderDigest.HeaderDigest S.Suite.under (fresh key) result }
+        ensures { HeadingAt (fresh key) result }
     {
         let Keyed {
             permutation,
@@ -39,7 +40,7 @@ impl<S: Suite> Heading<S> {
 
     // Adds bytes to the header.
     pub fn header(&mut self, p: &[u8]) -> Result<(), Placed<SessionFault>>
-        ensures { (R : Run) → HeadingAt S.Permutation.Permutation S.ChainingHash.ChainingHash S.HeaderDigest.HeaderDigest S.Suite.under R self.old → HeaderBy (header_check (length R.header) (length p.now)) S.Permutation.Permutation S.ChainingHash.ChainingHash S.HeaderDigest.HeaderDigest S.Suite.under R p.now self.old self.new result }
+        ensures { (R : Run) → HeadingAt R self.old → HeaderBy (header_check (length R.header) (length p.now)) R p.now self.old self.new result }
     {
         if p.len() > HEADER_MOST - self.count {
             return Err(Placed {
@@ -54,24 +55,20 @@ impl<S: Suite> Heading<S> {
 
     // Starts the body of a sealing.
     pub fn seal(self) -> Sealing<S>
-        ensures { (R : Run) → HeadingAt S.Permutation.Permutation S.ChainingHash.ChainingHash S.HeaderDigest.HeaderDigest S.Suite.under R self → CoreAt S.Permutation.Permutation S.ChainingHash.ChainingHash sealing S.Suite.under R result.core }
+        ensures { (R : Run) → HeadingAt R self → SessionAt R result }
     {
-        Sealing {
-            core: self.start::<Seal>(),
-        }
+        self.start()
     }
 
     // Starts the body of an opening.
     pub fn open(self) -> Opening<S>
-        ensures { (R : Run) → HeadingAt S.Permutation.Permutation S.ChainingHash.ChainingHash S.HeaderDigest.HeaderDigest S.Suite.under R self → CoreAt S.Permutation.Permutation S.ChainingHash.ChainingHash opening S.Suite.under R result.core }
+        ensures { (R : Run) → HeadingAt R self → SessionAt R result }
     {
-        Opening {
-            core: self.start::<Open>(),
-        }
+        self.start()
     }
 
-    fn start<W: Way>(self) -> Core<S>
-        ensures { (R : Run) → HeadingAt S.Permutation.Permutation S.ChainingHash.ChainingHash S.HeaderDigest.HeaderDigest S.Suite.under R self → CoreAt S.Permutation.Permutation S.ChainingHash.ChainingHash W.Way.way S.Suite.under R result }
+    pub(crate) fn start<W: Way>(self) -> Session<S, W>
+        ensures { (R : Run) → HeadingAt R self → SessionAt R result }
     {
         let Heading {
             permutation,
@@ -81,16 +78,16 @@ impl<S: Suite> Heading<S> {
         } = self;
         let tau = digest.finish();
         let lanes = W::lanes(tau, xor(tau, S::encode(1)));
-        Core {
+        Session {
             engine: Engine {
                 permutation,
                 hash,
                 tau,
             },
             lanes,
-            held: [0; 16],
-            len: 0,
+            held: Buffer::new(),
             total: 0,
+            way: PhantomData,
         }
     }
 }

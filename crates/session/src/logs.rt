@@ -1,8 +1,11 @@
 // What a session took and handed out, and what its calls answered, kept while it is played.
-ghost use Rattle.std.specs.Prelude.{◌≡◌, []};
+ghost use Rattle.std.specs.Prelude.{◌≡◌, ◌≤◌, [], length, IfOk, OnOk};
+ghost use Rattle.session.specs.Logs.{BodyKept, FinishKept, HeaderKept};
 
 use crate::script::Answer;
-use std::alloc::Global;
+use crate::types::Given;
+use fault::kinds::{Placed, SessionFault};
+use std::alloc::{AllocError, Global};
 
 #[derive(Drop)]
 pub struct Played {
@@ -26,5 +29,54 @@ impl Played {
             out: Vec::new(heap),
             answers: Vec::new(heap),
         }
+    }
+
+    // Keeps a header call that brought these bytes.
+    pub(crate) fn keep_header(
+        &mut self,
+        bytes: &[u8],
+        answer: Result<(), Placed<SessionFault>>,
+    ) -> Result<(), AllocError>
+        ensures { OnOk result (HeaderKept answer bytes.now self.old self.new) }
+    {
+        if answer.is_ok() {
+            self.header.extend_from_slice(bytes)?;
+        }
+        self.answers.push(Answer::Header(answer))?;
+        Ok(())
+    }
+
+    // Keeps a body call that brought these bytes and wrote to the front of `buffer`.
+    pub(crate) fn keep_body(
+        &mut self,
+        bytes: &[u8],
+        buffer: &[u8],
+        answer: Result<Given, Placed<SessionFault>>,
+    ) -> Result<(), AllocError>
+        requires { IfOk answer (λ given. given.written ≤ length buffer.now) }
+        ensures { OnOk result (BodyKept answer bytes.now buffer.now self.old self.new) }
+    {
+        if let Ok(given) = answer {
+            self.body.extend_from_slice(bytes)?;
+            self.out.extend_from_slice(&buffer[..given.written])?;
+        }
+        self.answers.push(Answer::Body(answer))?;
+        Ok(())
+    }
+
+    // Keeps a finish that wrote to `last`.
+    pub(crate) fn keep_finish(
+        &mut self,
+        last: &[u8; 16],
+        answer: Result<usize, Placed<SessionFault>>,
+    ) -> Result<(), AllocError>
+        requires { IfOk answer (λ n. n ≤ 16) }
+        ensures { OnOk result (FinishKept answer last.now self.old self.new) }
+    {
+        if let Ok(len) = answer {
+            self.out.extend_from_slice(&last[..len])?;
+        }
+        self.answers.push(Answer::Finish(answer))?;
+        Ok(())
     }
 }

@@ -5,8 +5,7 @@ ghost use Rattle.session.specs.Plays.{CoursePlayed, OpeningPlayed, SealingPlayed
 use crate::keys::KeyPlace;
 use crate::logs::Played;
 use crate::plays::{body_calls, header_calls};
-use crate::rows::{Open, Seal};
-use crate::script::{Answer, Course, End, Stretch};
+use crate::script::{Course, End, Stretch};
 use crate::types::{Heading, Opening, Sealing};
 use std::alloc::{AllocError, Global};
 use suite::Suite;
@@ -30,61 +29,43 @@ pub fn play<S: Suite>(
     }
 }
 
+// The body calls and the end of a sealing. Kept: its finish and an opening's differ in what they take, in what they write, and in what
+// is promised of them.
 fn play_sealing<S: Suite>(
     heap: Global,
-    sealing: Sealing<S>,
+    mut sealing: Sealing<S>,
     bodies: &[Stretch<'_>],
     finish: bool,
     mut log: Played,
 ) -> Result<(Played, End), AllocError>
-    ensures { IfOk result (λ p. SealingPlayed S.Permutation.Permutation S.ChainingHash.ChainingHash S.Suite.under bodies.now finish log p.0 p.1 sealing.core) }
+    ensures { IfOk result (λ p. SealingPlayed bodies.now finish log p.0 p.1 sealing) }
 {
-    let Sealing { mut core } = sealing;
-    body_calls::<S, Seal>(heap, &mut core, bodies, &mut log)?;
+    body_calls(heap, &mut sealing, bodies, &mut log)?;
     if !finish {
         return Ok((log, End::Unfinished));
     }
     let mut last = [0; 16];
     let mut tag = [0; 16];
-    let ended = Sealing { core };
-    match ended.finish(&mut last, &mut tag) {
-        Ok(len) => {
-            log.out.extend_from_slice(&last[0..len])?;
-            log.answers.push(Answer::Finish(Ok(len)))?;
-            Ok((log, End::Sealed { last, tag }))
-        }
-        Err(fault) => {
-            log.answers.push(Answer::Finish(Err(fault)))?;
-            Ok((log, End::Sealed { last, tag }))
-        }
-    }
+    let answer = sealing.finish(&mut last, &mut tag);
+    log.keep_finish(&last, answer)?;
+    Ok((log, End::Sealed { last, tag }))
 }
 
 fn play_opening<S: Suite>(
     heap: Global,
-    opening: Opening<S>,
+    mut opening: Opening<S>,
     bodies: &[Stretch<'_>],
     tag: Option<&[u8]>,
     mut log: Played,
 ) -> Result<(Played, End), AllocError>
-    ensures { IfOk result (λ p. OpeningPlayed S.Permutation.Permutation S.ChainingHash.ChainingHash S.Suite.under bodies.now tag.entry log p.0 p.1 opening.core) }
+    ensures { IfOk result (λ p. OpeningPlayed bodies.now tag.entry log p.0 p.1 opening) }
 {
-    let Opening { mut core } = opening;
-    body_calls::<S, Open>(heap, &mut core, bodies, &mut log)?;
+    body_calls(heap, &mut opening, bodies, &mut log)?;
     let Some(tag) = tag else {
         return Ok((log, End::Unfinished));
     };
     let mut last = [0; 16];
-    let ended = Opening { core };
-    match ended.finish(tag, &mut last) {
-        Ok(len) => {
-            log.out.extend_from_slice(&last[0..len])?;
-            log.answers.push(Answer::Finish(Ok(len)))?;
-            Ok((log, End::Opened { last }))
-        }
-        Err(fault) => {
-            log.answers.push(Answer::Finish(Err(fault)))?;
-            Ok((log, End::Opened { last }))
-        }
-    }
+    let answer = opening.finish(tag, &mut last);
+    log.keep_finish(&last, answer)?;
+    Ok((log, End::Opened { last }))
 }

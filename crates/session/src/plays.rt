@@ -4,8 +4,8 @@ ghost use Rattle.session.specs.Playing.{BodyPlayed, HeaderPlayed};
 
 use crate::logs::Played;
 use crate::rows::Way;
-use crate::script::{Answer, Stretch};
-use crate::types::{Core, Heading};
+use crate::script::Stretch;
+use crate::types::{Heading, Session};
 use std::alloc::{AllocError, Global};
 use suite::Suite;
 
@@ -15,19 +15,10 @@ pub(crate) fn header_call<S: Suite>(
     stretch: Stretch<'_>,
     log: &mut Played,
 ) -> Result<(), AllocError>
-    ensures { OnOk result (HeaderPlayed S.Permutation.Permutation S.ChainingHash.ChainingHash S.HeaderDigest.HeaderDigest S.Suite.under (stretch.entry ∷ []) log.old log.new heading.old heading.new) }
+    ensures { OnOk result (HeaderPlayed (stretch.entry ∷ []) log.old log.new heading.old heading.new) }
 {
-    match heading.header(stretch.bytes) {
-        Ok(()) => {
-            log.header.extend_from_slice(stretch.bytes)?;
-            log.answers.push(Answer::Header(Ok(())))?;
-            Ok(())
-        }
-        Err(fault) => {
-            log.answers.push(Answer::Header(Err(fault)))?;
-            Ok(())
-        }
-    }
+    let answer = heading.header(stretch.bytes);
+    log.keep_header(stretch.bytes, answer)
 }
 
 // Header calls, one after another.
@@ -36,7 +27,7 @@ pub(crate) fn header_calls<S: Suite>(
     stretches: &[Stretch<'_>],
     log: &mut Played,
 ) -> Result<(), AllocError>
-    ensures { OnOk result (HeaderPlayed S.Permutation.Permutation S.ChainingHash.ChainingHash S.HeaderDigest.HeaderDigest S.Suite.under stretches.now log.old log.new heading.old heading.new) }
+    ensures { OnOk result (HeaderPlayed stretches.now log.old log.new heading.old heading.new) }
 {
     for stretch in stretches {
         header_call(heading, *stretch, log)?;
@@ -47,39 +38,28 @@ pub(crate) fn header_calls<S: Suite>(
 // One body call, into a buffer of its own.
 fn body_call<S: Suite, W: Way>(
     heap: Global,
-    core: &mut Core<S>,
+    session: &mut Session<S, W>,
     stretch: Stretch<'_>,
     log: &mut Played,
 ) -> Result<(), AllocError>
-    ensures { OnOk result (BodyPlayed S.Permutation.Permutation S.ChainingHash.ChainingHash W.Way.way S.Suite.under (stretch.entry ∷ []) log.old log.new core.old core.new) }
+    ensures { OnOk result (BodyPlayed (stretch.entry ∷ []) log.old log.new session.old session.new) }
 {
     let mut buffer = vec![in heap; 0; stretch.room]?;
-    match core.body::<W>(stretch.bytes, &mut buffer) {
-        Ok((given, held)) => {
-            log.body.extend_from_slice(stretch.bytes)?;
-            buffer.truncate(given);
-            log.out.extend_from_slice(&buffer)?;
-            log.answers.push(Answer::Body(Ok((given, held))))?;
-            Ok(())
-        }
-        Err(fault) => {
-            log.answers.push(Answer::Body(Err(fault)))?;
-            Ok(())
-        }
-    }
+    let answer = session.body(stretch.bytes, &mut buffer);
+    log.keep_body(stretch.bytes, &buffer, answer)
 }
 
 // Body calls, one after another.
 pub(crate) fn body_calls<S: Suite, W: Way>(
     heap: Global,
-    core: &mut Core<S>,
+    session: &mut Session<S, W>,
     stretches: &[Stretch<'_>],
     log: &mut Played,
 ) -> Result<(), AllocError>
-    ensures { OnOk result (BodyPlayed S.Permutation.Permutation S.ChainingHash.ChainingHash W.Way.way S.Suite.under stretches.now log.old log.new core.old core.new) }
+    ensures { OnOk result (BodyPlayed stretches.now log.old log.new session.old session.new) }
 {
     for stretch in stretches {
-        body_call::<S, W>(heap, core, *stretch, log)?;
+        body_call(heap, session, *stretch, log)?;
     }
     Ok(())
 }

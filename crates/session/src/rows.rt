@@ -1,15 +1,18 @@
 // The rows: one code for sealing, which goes through them with E from X to Y, and for opening, which goes with D from Y to X.
-ghost use Rattle.std.specs.Prelude.{◌≡◌, ◌+◌, ◌*◌, ◌≤◌, ◌++◌, length, take};
-ghost use Rattle.poet.specs.Bytes.{◌⊕◌};
+ghost use Rattle.std.specs.Prelude.{◌≡◌, ℕ, ◌+◌, ◌*◌, ◌≤◌, List, ◌++◌, length, take, drop};
+ghost use Rattle.poet.specs.Functions.{Functions};
+ghost use Rattle.poet.specs.Rows.{size, zed};
 ghost use Rattle.session.specs.Directions.{Direction, opening, picks, sealing, turns};
+ghost use Rattle.session.specs.Engines.{EngineAt};
 ghost use Rattle.session.specs.Steps.{Ended, Ran, Stepped, lanes};
 
-use crate::blocks::joined_block;
-use poet::xor;
-use suite::{ChainingHash, Permutation};
+use crate::engine::Engine;
+use buffer::Buffer;
+use poet::{complete, xor};
+use suite::{ChainingHash, Permutation, Suite};
 
-// A way through the rows.
-pub(crate) trait Way {
+// A way through the rows. It is public because the types of sessions name it, but this module is not: nothing outside implements it.
+pub trait Way {
     ghost way: { Direction };
 
     // The permutation's function that a row uses.
@@ -22,9 +25,9 @@ pub(crate) trait Way {
         ensures giving { result.giving ≡ (turns way (lanes x y)).y };
 }
 
-pub(crate) struct Seal;
+pub struct Seal;
 
-pub(crate) struct Open;
+pub struct Open;
 
 impl Way for Seal {
     ghost way = { sealing };
@@ -58,80 +61,83 @@ impl Way for Open {
 
 // The last block of each sequence: blocks come in at `taking` and go out at `giving`.
 #[derive(Clone, Copy)]
-pub(crate) struct Lanes {
+pub struct Lanes {
     pub(crate) taking: [u8; 16],
     pub(crate) giving: [u8; 16],
 }
 
-impl Lanes {
+impl<S: Suite> Engine<S> {
     // One row: the block that it gives, with both sequences one block on.
-    pub(crate) fn row<W: Way, P: Permutation, H: ChainingHash>(
-        self,
-        p: &P,
-        h: &H,
-        block: [u8; 16],
-    ) -> (Lanes, [u8; 16])
-        ensures { Stepped (picks W.Way.way (P.Permutation.enc p.now) (P.Permutation.dec p.now)) (H.ChainingHash.chain h.now) self.taking self.giving block result.0.taking result.0.giving result.1 }
+    fn row<W: Way>(&self, lanes: Lanes, block: [u8; 16]) -> (Lanes, [u8; 16])
+        ensures { (f : Functions) (H : List ℕ) → EngineAt S.Permutation.Permutation S.ChainingHash.ChainingHash f H self.now → Stepped (picks W.Way.way f.enc f.dec) f.chain lanes.taking lanes.giving block result.0.taking result.0.giving result.1 }
     {
-        let taking = xor(block, h.hash(self.taking));
-        let giving = W::pass(p, taking);
-        let given = xor(giving, h.hash(self.giving));
+        let taking = xor(block, self.hash.hash(lanes.taking));
+        let giving = W::pass(&self.permutation, taking);
+        let given = xor(giving, self.hash.hash(lanes.giving));
         (Lanes { taking, giving }, given)
     }
 
-    // The last row, with the mask `s` on both sides of the permutation.
-    pub(crate) fn last_row<W: Way, P: Permutation, H: ChainingHash>(
-        self,
-        p: &P,
-        h: &H,
-        s: [u8; 16],
+    // The last row, with the mask on both sides of the permutation.
+    pub(crate) fn last_row<W: Way>(
+        &self,
+        lanes: Lanes,
+        mask: [u8; 16],
         block: [u8; 16],
     ) -> (Lanes, [u8; 16])
-        ensures { Ended (picks W.Way.way (P.Permutation.enc p.now) (P.Permutation.dec p.now)) (H.ChainingHash.chain h.now) s self.taking self.giving block result.0.taking result.0.giving result.1 }
+        ensures { (f : Functions) (H : List ℕ) → EngineAt S.Permutation.Permutation S.ChainingHash.ChainingHash f H self.now → Ended (picks W.Way.way f.enc f.dec) f.chain mask lanes.taking lanes.giving block result.0.taking result.0.giving result.1 }
     {
-        let taking = xor(xor(block, s), h.hash(self.taking));
-        let giving = W::pass(p, taking);
-        let given = xor(xor(giving, h.hash(self.giving)), s);
+        let taking = xor(xor(block, mask), self.hash.hash(lanes.taking));
+        let giving = W::pass(&self.permutation, taking);
+        let given = xor(xor(giving, self.hash.hash(lanes.giving)), mask);
         (Lanes { taking, giving }, given)
     }
 
-    // n rows over the front of the bytes held and the input behind them; what they give goes to the front of `out`.
-    pub(crate) fn run<W: Way, P: Permutation, H: ChainingHash>(
-        self,
-        p: &P,
-        h: &H,
-        held: &[u8; 16],
-        len: usize,
+    // n rows over the bytes held and the input behind them; what they give goes to the front of `out`, and the bytes that they leave are
+    // held, as many as there is room for.
+    pub(crate) fn run<W: Way>(
+        &self,
+        lanes: Lanes,
+        held: &mut Buffer<16>,
         input: &[u8],
         out: &mut [u8],
         n: usize,
     ) -> Lanes
-        requires few { len ≤ 16 }
-        requires within { 16 * n ≤ len + length input.now }
+        requires within { 16 * n ≤ length held.old + length input.now }
         requires room { 16 * n ≤ length out.old }
-        ensures { Ran (picks W.Way.way (P.Permutation.enc p.now) (P.Permutation.dec p.now)) (H.ChainingHash.chain h.now) self.taking self.giving (take len held.now ++ input.now) out.old n result.taking result.giving out.new }
+        ensures ran { (f : Functions) (H : List ℕ) → EngineAt S.Permutation.Permutation S.ChainingHash.ChainingHash f H self.now → Ran (picks W.Way.way f.enc f.dec) f.chain lanes.taking lanes.giving (held.old ++ input.now) out.old n result.taking result.giving out.new }
+        ensures left { held.new ≡ take 16 (drop (16 * n) (held.old ++ input.now)) }
     {
-        let mut lanes = self;
+        let mut lanes = lanes;
+        let mut input = input;
+        // Kept: tried with chunks_exact_mut, after which a proof knows the length of `out`, and not its bytes.
         for i in 0..n {
-            let at = 16 * i;
-            let (next, given) = lanes.row::<W, P, H>(p, h, joined_block(held, len, input, at));
+            let more = 16 - held.as_slice().len();
+            held.extend(input);
+            input = &input[more..];
+            let block = complete(held.as_slice(), &[0; 16]);
+            *held = Buffer::new();
+            let (next, given) = self.row::<W>(lanes, block);
             lanes = next;
+            let at = 16 * i;
             out[at..at + 16].copy_from_slice(&given);
         }
+        held.extend(input);
         lanes
     }
-}
 
-// Z, from τ and the last X and Y.
-pub(crate) fn closing<P: Permutation, H: ChainingHash>(
-    p: &P,
-    h: &H,
-    tau: [u8; 16],
-    x: [u8; 16],
-    y: [u8; 16],
-) -> [u8; 16]
-    ensures { result ≡ P.Permutation.enc p.now (H.ChainingHash.chain h.now x ⊕ tau) ⊕ H.ChainingHash.chain h.now y ⊕ tau }
-{
-    let inner = p.encrypt(xor(h.hash(x), tau));
-    xor(xor(inner, h.hash(y)), tau)
+    // S for a message of `len` bytes.
+    pub(crate) fn mask(&self, len: usize) -> [u8; 16]
+        requires { len ≤ 1048576 }
+        ensures { (key H : List ℕ) → EngineAt S.Permutation.Permutation S.ChainingHash.ChainingHash (S.Suite.under key) H self.now → result ≡ size (S.Suite.under key) len }
+    {
+        self.permutation.encrypt(S::encode(8 * len as u64))
+    }
+
+    // Z, from τ and the last X and Y.
+    pub(crate) fn closing(&self, x: [u8; 16], y: [u8; 16]) -> [u8; 16]
+        ensures { (f : Functions) (H : List ℕ) → EngineAt S.Permutation.Permutation S.ChainingHash.ChainingHash f H self.now → result ≡ zed f (f.dig H) x y }
+    {
+        let inner = self.permutation.encrypt(xor(self.hash.hash(x), self.tau));
+        xor(xor(inner, self.hash.hash(y)), self.tau)
+    }
 }

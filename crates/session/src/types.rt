@@ -1,8 +1,10 @@
 // The states of a session, each moved into the next.
-ghost use Rattle.std.specs.Prelude.{◌≡◌, ◌+◌, ◌-◌, ◌*◌, ◌/◌, ◌≤◌};
+ghost use Rattle.std.specs.Prelude.{◌≡◌, ◌+◌, ◌-◌, ◌*◌, ◌/◌, ◌≤◌, length};
 
 use crate::engine::Engine;
-use crate::rows::Lanes;
+use crate::rows::{Lanes, Open, Seal, Way};
+use buffer::Buffer;
+use std::marker::PhantomData;
 use suite::Suite;
 
 // A heading takes the header.
@@ -15,26 +17,28 @@ pub struct Heading<S: Suite> {
     ghost within: { count ≤ 65536 },
 }
 
-// What a sealing and an opening share: the engine, where the rows stand, the bytes that no row has taken yet, and the body bytes taken.
+// A session whose body has started, one way or the other: the engine, where the rows stand, the bytes that no row has taken yet, and
+// the number of body bytes taken.
 #[derive(Drop)]
-pub(crate) struct Core<S: Suite> {
+pub struct Session<S: Suite, W: Way> {
     pub(crate) engine: Engine<S>,
     pub(crate) lanes: Lanes,
-    pub(crate) held: [u8; 16],
-    pub(crate) len: usize,
+    pub(crate) held: Buffer<16>,
     pub(crate) total: usize,
+    pub(crate) way: PhantomData<W>,
     ghost within: { total ≤ 1048576 },
-    ghost split: { len + 16 * ((total - 1) / 16) ≡ total },
+    ghost split: { length held + 16 * ((total - 1) / 16) ≡ total },
+}
+
+// How many bytes a body call wrote, and how many are held back after it.
+#[derive(Debug, PartialEq, Eq, Clone, Copy)]
+pub struct Given {
+    pub written: usize,
+    pub held: usize,
 }
 
 // A sealing takes the message and gives out the ciphertext.
-#[derive(Drop)]
-pub struct Sealing<S: Suite> {
-    pub(crate) core: Core<S>,
-}
+pub type Sealing<S> = Session<S, Seal>;
 
 // An opening takes the ciphertext and gives out the message; what it gave out is provisional until it is accepted.
-#[derive(Drop)]
-pub struct Opening<S: Suite> {
-    pub(crate) core: Core<S>,
-}
+pub type Opening<S> = Session<S, Open>;

@@ -21,10 +21,8 @@ pub fn seal<S: Suite>(
     let mut place = KeyPlace::new();
     place.fill(key)?;
     checked(header, message, out.len())?;
-    let tail = seal_straight::<S>(&place, header, message, out, tag)?;
-    let len = message.len();
-    out[tail.given..len].copy_from_slice(&tail.last[0..tail.len]);
-    Ok(len)
+    seal_straight::<S>(&place, header, message, out, tag)?;
+    Ok(message.len())
 }
 
 // Opens `ciphertext` under `key` and `header` if `tag` is its tag: the message goes to the front of `out`. Answers the bytes written.
@@ -42,14 +40,9 @@ pub fn open<S: Suite>(
     checked(header, ciphertext, out.len())?;
     let tag = tag_bytes(tag, 0)?;
     let len = ciphertext.len();
-    match open_straight::<S>(&place, header, ciphertext, &tag, out) {
-        Ok(tail) => {
-            out[tail.given..len].copy_from_slice(&tail.last[0..tail.len]);
-            Ok(len)
-        }
-        Err(fault) => {
-            out[0..len].fill(0);
-            Err(fault)
-        }
+    if let Err(fault) = open_straight::<S>(&place, header, ciphertext, &tag, out) {
+        out[..len].fill(0);
+        return Err(fault);
     }
+    Ok(len)
 }

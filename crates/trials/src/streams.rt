@@ -7,6 +7,7 @@ use session::keys::KeyPlace;
 use session::logs::Played;
 use session::play::play;
 use session::script::{Answer, Course, End, Stretch};
+use session::types::Given;
 use session::whole::seal;
 use std::alloc::{AllocError, Global};
 use std::process::Abort;
@@ -112,7 +113,12 @@ fn cuts_open_to_one_message(rt: HostRuntime) -> Result<(), Fail> {
     Ok(())
 }
 
-// The pairs that body calls answer: a block is given only once a byte follows it.
+// The answer of a body call that wrote so many bytes and holds so many.
+fn given(written: usize, held: usize) -> Answer {
+    Answer::Body(Ok(Given { written, held }))
+}
+
+// What body calls answer: a block is given only once a byte follows it.
 #[test]
 fn pairs(rt: HostRuntime) -> Result<(), Fail> {
     let bodies = [
@@ -131,9 +137,9 @@ fn pairs(rt: HostRuntime) -> Result<(), Fail> {
     ];
     let (log, end) = sealing(rt.alloc(), &[], &bodies, false)?;
     let answers = [
-        Answer::Body(Ok((0, 16))),
-        Answer::Body(Ok((16, 1))),
-        Answer::Body(Ok((32, 1))),
+        given(0, 16),
+        given(16, 1),
+        given(32, 1),
     ];
     assert!(rt; log.answers.as_slice() == answers.as_slice());
     assert_eq!(rt; log.out.len(), 48);
@@ -184,8 +190,8 @@ fn goes_on_after_refusals(rt: HostRuntime) -> Result<(), Fail> {
             fault: SessionFault::Room,
             place: 0,
         })),
-        Answer::Body(Ok((32, 7))),
-        Answer::Body(Ok((0, 8))),
+        given(32, 7),
+        given(0, 8),
         Answer::Finish(Ok(8)),
     ];
     assert!(rt; log.answers.as_slice() == answers.as_slice());

@@ -3,8 +3,8 @@ use Rattle.session.proofs.play.play.Goals as goal
 
 pub returns-in-Seal : goal.returns-in-Seal
 returns-in-Seal g c =
-    rw c.in-Seal.is (sealing_course _ _ _ _ _ _ _ _ _ _ c.new-log.ensures c.new-heading.ensures c.in_ok-header_calls.ensures _ _ _ c.seal.ensures _ c.play_sealing.ensures)
+    rw c.in-Seal.is (sealing_course _ _ _ _ _ _ c.new-log.ensures c.new-heading.ensures c.in_ok-header_calls.ensures _ _ _ c.seal.ensures _ c.play_sealing.ensures)
 
 pub returns-in-Open : goal.returns-in-Open
 returns-in-Open g c =
-    rw c.in-Open.is (opening_course _ _ _ _ _ _ _ _ _ _ c.new-log.ensures c.new-heading.ensures c.in_ok-header_calls.ensures _ _ _ c.open.ensures _ c.play_opening.ensures)
+    rw c.in-Open.is (opening_course _ _ _ _ _ _ c.new-log.ensures c.new-heading.ensures c.in_ok-header_calls.ensures _ _ _ c.open.ensures _ c.play_opening.ensures)

@@ -1,20 +1,9 @@
-use Rattle.std.proofs.Common.{[], ◌∷◌, vec_items, refl, arith}
-use Rattle.std.proofs.lemmas.Slice.{pushed}
-use Rattle.session.proofs.Courses.{sealing_unfinished, sealing_accepted, sealing_refused}
+use Rattle.session.proofs.Courses.{sealing_unfinished, sealing_finished}
+use Rattle.std.proofs.Common.{refl}
 use Rattle.session.proofs.play.play_sealing.Goals as goal
 
 pub returns-then-not-finish : goal.returns-then-not-finish
-returns-then-not-finish g c = sealing_unfinished _ _ _ g.met.S.Suite.lawful _ _ _ _ _ _ c.if-not-finish.true c.in_ok-body_calls.ensures
+returns-then-not-finish g c = sealing_unfinished g.met.S.Suite.lawful _ _ _ _ _ c.in_ok-body_calls.ensures _ refl c.if-not-finish.true
 
-pub returns-in_ok-push-in-Ok : goal.returns-in_ok-push-in-Ok
-returns-in_ok-push-in-Ok g c =
-    sealing_accepted _ _ _ g.met.S.Suite.lawful _ _ _ _ _ _ _ _ _ _ _ _ c.if-not-finish.false c.in_ok-body_calls.ensures c.in-Ok.ensures.call refl refl
-    (pushed {was = vec_items c.body_calls.new.log.out} _ refl c.in_ok-extend_from_slice-in-Ok.was c.extend_from_slice.ensures.items)
-    refl
-    (omega arith)
-    (pushed {was = vec_items c.body_calls.new.log.answers} (_ ∷ []) refl c.in_ok-push-in-Ok.was c.push.ensures.items)
-
-pub returns-in_ok-push-in-Err : goal.returns-in_ok-push-in-Err
-returns-in_ok-push-in-Err g c =
-    sealing_refused _ _ _ g.met.S.Suite.lawful _ _ _ _ _ _ _ _ _ _ c.if-not-finish.false c.in_ok-body_calls.ensures c.in-Err.ensures.call refl refl refl
-    (pushed {was = vec_items c.body_calls.new.log.answers} (_ ∷ []) refl c.in_ok-push-in-Err.was c.push-in-Err.ensures.items)
+pub returns : goal.returns
+returns g c = sealing_finished g.met.S.Suite.lawful _ _ _ _ _ c.in_ok-body_calls.ensures _ _ _ c.in_ok-keep_finish.ensures _ _ refl c.if-not-finish.false c.finish-answer.ensures.call

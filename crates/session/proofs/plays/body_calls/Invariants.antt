@@ -4,4 +4,4 @@ use Rattle.session.proofs.plays.body_calls.Given as goal
 
 abbrev pub invariant-loop-stretch : goal.invariant-loop-stretch
 invariant-loop-stretch g l =
-    BodyPlayed g.S.Permutation.Permutation g.S.ChainingHash.ChainingHash g.W.Way.way g.S.Suite.under (take l.stretch-index l.stretches) l.initial.log l.log l.initial.core l.core
+    BodyPlayed (take l.stretch-index l.stretches) l.initial.log l.log l.initial.session l.session

@@ -4,4 +4,4 @@ use Rattle.session.proofs.plays.header_calls.Given as goal
 
 abbrev pub invariant-loop-stretch : goal.invariant-loop-stretch
 invariant-loop-stretch g l =
-    HeaderPlayed g.S.Permutation.Permutation g.S.ChainingHash.ChainingHash g.S.HeaderDigest.HeaderDigest g.S.Suite.under (take l.stretch-index l.stretches) l.initial.log l.log l.initial.heading l.heading
+    HeaderPlayed (take l.stretch-index l.stretches) l.initial.log l.log l.initial.heading l.heading

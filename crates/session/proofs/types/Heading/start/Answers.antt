@@ -14,6 +14,6 @@ returns g c =
       x_is = s.0;
       y_is = s.1;
       out_is = s.2;
-      held_is = s.3;
+      held_is = c.new.ensures ∙ s.3;
       total_is = s.4;
     }

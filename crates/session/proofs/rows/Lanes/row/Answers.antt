@@ -1,6 +1,0 @@
-use Rattle.poet.specs.Rows.{takes, gives}
-use Rattle.session.proofs.rows.Lanes.row.Goals as goal
-
-pub returns : goal.returns
-unfolding takes gives
-returns g c = record { x_is = cc; y_is = cc; gives_is = cc }
