@@ -1,5 +1,5 @@
 -- The known figures stand: each is what the definitions compute, and what they compute is the seal.
-use Rattle.std.proofs.Common.{◌≡◌, ℕ, ◌+◌, ◌-◌, T, leb, List, [], length, replicate, Ok, refl, ap, ◌∙◌, ap₂, lit<, lit≤}
+use Rattle.std.proofs.Common.{◌≡◌, ℕ, ◌+◌, T, leb, List, [], length, replicate, Ok, refl, ap, ◌∙◌, ap₂, lit<, lit≤}
 use Rattle.poet.specs.Bytes.{Bytes, Block, ◌⊕◌}
 use Rattle.poet.specs.Seal.{Limits, Seals}
 use Rattle.poet.specs.Rows.{takes, gives, next, rows, last, cut, start, size, zed, sealing, cipher, tag}

@@ -24,7 +24,9 @@ fn line(rt: &HostRuntime, answer: &Answer) -> anyhow::Result<()> {
     match answer {
         Answer::Header(Ok(())) => println!(rt; "header: taken")?,
         Answer::Header(Err(fault)) => println!(rt; "header: {fault}")?,
-        Answer::Body(Ok(Given { written, held })) => println!(rt; "body: given {written}, held {held}")?,
+        Answer::Body(Ok(Given { written, held })) => println!(rt;
+            "body: given {written}, held {held}"
+        )?,
         Answer::Body(Err(fault)) => println!(rt; "body: {fault}")?,
         Answer::Finish(Ok(last)) => println!(rt; "finish: accepted, last {last}")?,
         Answer::Finish(Err(fault)) => println!(rt; "finish: {fault}")?,

@@ -1,5 +1,5 @@
--- Blocks that are compared byte by byte.
-use Rattle.std.proofs.Common.{◌≡◌, ℕ, List, [], ◌∷◌, length, sym, refl, ap, ap₂, ◌∙◌, arith}
+-- Blocks that are compared byte by byte, and zeros.
+use Rattle.std.proofs.Common.{◌≡◌, ℕ, List, [], ◌∷◌, length, sym, refl, ap, ap₂, ◌∙◌, arith, ◌≤◌, ◌++◌, take, drop, replicate, length-take-le}
 use Rattle.std.specs.List.{fold, zip}
 use lib.Bits.{bit_or, bit_xor, or_add_and, and_le_l, and_le_r, xor_self, xor_zero_l, xor_zero_r, xor_assoc}
 
@@ -31,3 +31,7 @@ same_bytes d (x ∷ a) (y ∷ b) l e =
 pub no_differences : (a : List ℕ) → differences 0 a a ≡ 0
 no_differences [] = refl
 no_differences (x ∷ a) = ap (λ d. differences d a a) (differs_more 0 x x refl refl) ∙ no_differences a
+
+-- a front of n bytes that is filled with zeros; k is how the code counts it
+pub zeroed : (w o : List ℕ) (n k : ℕ) → k ≡ n → n ≤ length o → w ≡ replicate (length (take k o)) 0 → w ++ drop k o ≡ replicate n 0 ++ drop n o
+zeroed w o n k e l z = ap (λ u. u ++ drop k o) (z ∙ ap (λ i. replicate i 0) (length-take-le k o (omega arith))) ∙ ap (λ i. replicate i 0 ++ drop i o) e

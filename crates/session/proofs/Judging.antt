@@ -1,11 +1,12 @@
 -- The calls for whole buffers: from their checks and the session that they run to what their contracts say.
-use Rattle.std.proofs.Common.{◌≡◌, ℕ, ◌≤◌, true, eqb, List, ◌++◌, length, take, drop, replicate, None, Ok, Err, Option, Result, sym, refl, ap, ◌∙◌, subst, ap₂, arith, length-take, ltb-false}
+use Rattle.std.proofs.Common.{◌≡◌, ℕ, ◌≤◌, true, eqb, List, ◌++◌, length, take, drop, replicate, None, Ok, Err, Option, Result, sym, refl, ap, ◌∙◌, subst, arith, ltb-false}
 use Rattle.fault.specs.declared.kinds.SessionFault.{SessionFault}
 use Rattle.fault.specs.declared.kinds.Placed.{Placed}
 use Rattle.poet.specs.Functions.{Functions}
 use Rattle.session.specs.Calls.{answered, body_checks, checks, key_check, tag_check, FillBy, Sealed, SealingBy, SealCall, Refused, OpeningBy, OpenCall}
 use Rattle.session.specs.Straight.{SealRun, OpenRun}
 use Rattle.session.specs.Sessions.{writes}
+use Rattle.session.proofs.Bytewise.{zeroed}
 use Rattle.session.proofs.Straights.{past_front}
 use Rattle.session.proofs.Calling.{fill_ok}
 use Rattle.session.proofs.Passing.{Passed, passed, passes, answered_ok, only_none}
@@ -50,10 +51,9 @@ module _ (under : List ℕ → Functions) (key z b H M o : List ℕ) (filled : F
     refusing_stands o₁ w e lo s' we =
         let s = run_given o₁ (Err e) s' in
         let r = room in
-        let l : length (take (length M) o₁) ≡ length M = length-take (length M) o₁ ∙ omega arith in
         let made : Refused (under key) H M T o (w ++ drop (length M) o₁) e = record {
           fault = s.fault;
           none = s.none;
-          zeros = ap₂ ◌++◌ (we ∙ ap (λ i. replicate i 0) l) (past_front (writes (length M)) (length M) o₁ o (omega arith) s.rest);
+          zeros = zeroed w o₁ (length M) (length M) refl (omega arith) we ∙ ap (λ u. replicate (length M) 0 ++ u) (past_front (writes (length M)) (length M) o₁ o (omega arith) s.rest);
         } in
         subst (λ (c : Option (Placed SessionFault)). OpeningBy c (under key) H M T o (w ++ drop (length M) o₁) (Err e)) (sym none) made

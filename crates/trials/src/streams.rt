@@ -136,11 +136,7 @@ fn pairs(rt: HostRuntime) -> Result<(), Fail> {
         },
     ];
     let (log, end) = sealing(rt.alloc(), &[], &bodies, false)?;
-    let answers = [
-        given(0, 16),
-        given(16, 1),
-        given(32, 1),
-    ];
+    let answers = [given(0, 16), given(16, 1), given(32, 1)];
     assert!(rt; log.answers.as_slice() == answers.as_slice());
     assert_eq!(rt; log.out.len(), 48);
     assert_eq!(rt; end, End::Unfinished);
