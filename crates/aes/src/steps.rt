@@ -31,7 +31,7 @@ pub(crate) fn shift_rows(s: [u8; 16]) -> [u8; 16]
     ]
 }
 
-// InvShiftRows.
+// InvShiftRows. Kept beside ShiftRows: the two name other places, and a table of places would say no more.
 pub(crate) fn unshift_rows(s: [u8; 16]) -> [u8; 16]
     ensures { result ≡ inv_shift_rows s }
 {

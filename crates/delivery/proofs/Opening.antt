@@ -1,5 +1,5 @@
 -- From the opening of a message and the test of a sheet to the opening of a sheet.
-use Rattle.std.proofs.Common.{◌≡◌, ℕ, ◌≤◌, Bool, true, false, cond, not, eqb, ltb, List, ◌++◌, length, take, drop, replicate, IsErrAnd, Some, None, Ok, Err, Option, Result, sym, refl, ap, ◌∙◌, subst, inl, inr, arith, ltb-false, length-take}
+use Rattle.std.proofs.Common.{◌≡◌, ℕ, ◌≤◌, Bool, true, false, cond, not, eqb, ltb, List, ◌++◌, length, take, drop, replicate, IsErrAnd, Some, None, Ok, Err, Option, Result, sym, refl, ap, ◌∙◌, subst, inl, inr, arith, ltb-false}
 use Rattle.fault.specs.declared.kinds.KeyFault.TheVariants.{Length}
 use Rattle.fault.specs.declared.kinds.SessionFault.{SessionFault}
 use Rattle.fault.specs.declared.kinds.SessionFault.TheVariants.{Key, Header, Body, Room, Empty}
@@ -7,17 +7,12 @@ use Rattle.fault.specs.declared.kinds.SheetFault.{SheetFault}
 use Rattle.fault.specs.declared.kinds.Placed.{Placed}
 use Rattle.poet.specs.Functions.{Functions}
 use Rattle.session.specs.Calls.{body_checks, tag_check, OpeningBy}
+use Rattle.session.proofs.Bytewise.{zeroed}
 use Rattle.sheet.specs.Entries.{Item, sheet_of}
 use Rattle.sheet.specs.Calls.{Tested}
 use Rattle.sheet.proofs.Decoding.{unique}
 use Rattle.delivery.specs.Told.{OpeningUnder}
 use Rattle.delivery.specs.Sheets.{SheetOpened, SheetBy, SheetUnder, lifted, open_checks}
-
--- the front of a buffer filled with zeros
-zeroed : (w o : List ℕ) (n k : ℕ) → k ≡ n → n ≤ length o → w ≡ replicate (length (take k o)) 0 → w ++ drop k o ≡ replicate n 0 ++ drop n o
-zeroed w o n k e l z =
-    let j : length (take k o) ≡ n = length-take k o ∙ omega arith in
-    ap (λ u. u ++ drop k o) (z ∙ ap (λ i. replicate i 0) j) ∙ ap (λ i. replicate n 0 ++ drop i o) e
 
 never : {A B G : Type 0} (a : A) (b : B) → ◌≡◌ {A = Result A B} (Ok a) (Err b) → G
 never a b e = let z : ◌≡◌ {A = ℕ} 0 1 = cc in absurd (omega arith)

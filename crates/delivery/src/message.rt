@@ -7,6 +7,7 @@ use suites::listed::Listed;
 use suites::mirror::Mirror;
 use suites::shaft::Shaft;
 
+// Kept with a parameter for each buffer: every one has a refusal of its own, and a struct of them would be made for the call alone.
 pub fn seal(
     suite: u8,
     key: &[u8],

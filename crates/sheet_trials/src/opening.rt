@@ -7,7 +7,7 @@ use fault::kinds::{KeyFault, SessionFault, SheetFault};
 use fault::shown::Fault;
 use sheet::entry::Entry;
 use sheet::writing::write;
-use std::alloc::Global;
+use std::alloc::{AllocError, Global};
 use std::fmt::Display;
 use std::process::Abort;
 use std::test::Fail;
@@ -275,11 +275,14 @@ fn refused_sheets(rt: HostRuntime) -> Result<(), Fail> {
     Ok(())
 }
 
-// The bytes with one bit turned.
-fn damaged(rt: &impl Abort, heap: Global, bytes: &[u8], i: usize) -> Result<Vec<u8>, Fail> {
-    let mut all = bytes.to_vec(heap)?;
-    assert!(rt; i < all.len());
-    all[i] ^= 0x80;
+// The bytes with one bit turned, in each of them in turn.
+fn each_damaged(heap: Global, bytes: &[u8]) -> Result<Vec<Vec<u8>>, AllocError> {
+    let mut all = Vec::new(heap);
+    for i in 0..bytes.len() {
+        let mut damaged = bytes.to_vec(heap)?;
+        damaged[i] ^= 0x80;
+        all.push(damaged)?;
+    }
     Ok(all)
 }
 
@@ -313,36 +316,33 @@ fn forged<'a>(
 #[test]
 fn damage_is_refused(rt: HostRuntime) -> Result<(), Fail> {
     let heap = rt.alloc();
-    for i in 0..18usize {
-        let header = damaged(&rt, heap, SHAFT.header, i)?;
+    for header in &each_damaged(heap, SHAFT.header)? {
         forged(
             &rt,
             heap,
-            header.as_slice(),
+            header,
             SHAFT.ciphertext,
             SHAFT.tag,
             &"a byte of the header",
         )?;
     }
-    for i in 0..84usize {
-        let ciphertext = damaged(&rt, heap, SHAFT.ciphertext, i)?;
+    for ciphertext in &each_damaged(heap, SHAFT.ciphertext)? {
         forged(
             &rt,
             heap,
             SHAFT.header,
-            ciphertext.as_slice(),
+            ciphertext,
             SHAFT.tag,
             &"a byte of the ciphertext",
         )?;
     }
-    for i in 0..16usize {
-        let tag = damaged(&rt, heap, SHAFT.tag, i)?;
+    for tag in &each_damaged(heap, SHAFT.tag)? {
         forged(
             &rt,
             heap,
             SHAFT.header,
             SHAFT.ciphertext,
-            tag.as_slice(),
+            tag,
             &"a byte of the tag",
         )?;
     }

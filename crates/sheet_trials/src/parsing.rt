@@ -11,13 +11,13 @@ const TAG: &'static [u8; 16] = b"\x01\x02\x03\x04\x05\x06\x07\x08\x09\x0a\x0b\x0
 
 // A delivery under suite 4, with a header and a ciphertext of these lengths, which tells `told` as the length of its ciphertext.
 fn delivery(heap: Global, header: u16, told: u32, ciphertext: u16) -> Result<Vec<u8>, AllocError> {
-    let header_end = 19 + header as usize;
+    let header_end = 19 + usize::from(header);
     let mut bytes = vec![in heap; 4; 1]?;
     bytes.extend_from_slice(KEY)?;
     bytes.extend_from_slice(&header.to_be_bytes())?;
     bytes.resize(header_end, 0x22)?;
     bytes.extend_from_slice(&told.to_be_bytes())?;
-    bytes.resize(header_end + 4 + ciphertext as usize, 0x33)?;
+    bytes.resize(header_end + 4 + usize::from(ciphertext), 0x33)?;
     bytes.extend_from_slice(TAG)?;
     Ok(bytes)
 }
@@ -30,14 +30,14 @@ fn parses(
     len: usize,
     case: &impl Display,
 ) -> Result<(), Fail> {
-    let input = delivery(heap, header, ciphertext as u32, ciphertext)?;
+    let input = delivery(heap, header, u32::from(ciphertext), ciphertext)?;
     assert_eq!(rt; input.len(), len, "{case}");
     let d = parse(&input)?;
     assert_eq!(rt; d.suite, 4, "{case}");
     assert!(rt; d.key == KEY.as_slice(), "other key: {case}");
-    let filled = vec![in heap; 0x22; header as usize]?;
+    let filled = vec![in heap; 0x22; usize::from(header)]?;
     assert!(rt; d.header == filled.as_slice(), "other header: {case}");
-    let filled = vec![in heap; 0x33; ciphertext as usize]?;
+    let filled = vec![in heap; 0x33; usize::from(ciphertext)]?;
     assert!(rt;
         d.ciphertext == filled.as_slice(),
         "other ciphertext: {case}"

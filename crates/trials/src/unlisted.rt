@@ -11,7 +11,7 @@ const TAG: [u8; 16] = [0x55; 16];
 fn refused(suite: u8) -> Result<usize, Placed<SessionFault>> {
     Err(Placed {
         fault: SessionFault::Key(KeyFault::Suite),
-        place: suite as usize,
+        place: usize::from(suite),
     })
 }
 
