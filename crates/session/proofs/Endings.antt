@@ -6,6 +6,7 @@ use Rattle.std.proofs.lemmas.Bool.{and_parts, and_cases}
 use Rattle.poet.specs.Functions.{Functions}
 use Rattle.poet.specs.Rows.{State, Sheet, rows, last, cut, whole, ends, sheet, start, turned, size, zed, sealing, cipher, tag, opening, opened}
 use Rattle.poet.proofs.Completing.{completes}
+use Rattle.session.specs.declared.rows.Lanes.{Lanes}
 use Rattle.session.specs.Steps.{lanes, Ended, Tests, Tested}
 
 -- the last row looks at x and y only
@@ -14,20 +15,20 @@ unfolding last
 last_from e c S b s x y p q = cc
 
 -- all rows over a, whose last block is completed by the front of `fill`; g is the whole last block that they gave
-record Closed (e c : List ℕ → List ℕ) (S : List ℕ) (s : State) (a fill x' y' g : List ℕ) : Type 0 where
-  x_is : x' ≡ (sheet e c S s a (take (16 - ends a) fill)).x
-  y_is : y' ≡ (sheet e c S s a (take (16 - ends a) fill)).y
+record Closed (e c : List ℕ → List ℕ) (S : List ℕ) (s : State) (a fill : List ℕ) (v' : Lanes) (g : List ℕ) : Type 0 where
+  x_is : v'.taking ≡ (sheet e c S s a (take (16 - ends a) fill)).x
+  y_is : v'.giving ≡ (sheet e c S s a (take (16 - ends a) fill)).y
   out : (rows e c (whole a) s a).out ++ take (ends a) g ≡ (sheet e c S s a (take (16 - ends a) fill)).out
   rest : drop (ends a) g ≡ (sheet e c S s a (take (16 - ends a) fill)).rest
 
-closed : (e c : List ℕ → List ℕ) (S : List ℕ) (s : State) (a fill p b x y x' y' g : List ℕ) → x ≡ (rows e c (whole a) s a).x → y ≡ (rows e c (whole a) s a).y → p ≡ drop (16 * whole a) a → b ≡ take 16 (p ++ fill)
-    → Ended e c S x y b x' y' g → Closed e c S s a fill x' y' g
+closed : (e c : List ℕ → List ℕ) (S : List ℕ) (s : State) (a fill p b : List ℕ) (v v' : Lanes) (g : List ℕ) → v.taking ≡ (rows e c (whole a) s a).x → v.giving ≡ (rows e c (whole a) s a).y → p ≡ drop (16 * whole a) a → b ≡ take 16 (p ++ fill)
+    → Ended e c S v b v' g → Closed e c S s a fill v' g
 unfolding cut
-closed e c S s a fill p b x y x' y' g xe ye pe be E =
+closed e c S s a fill p b v v' g xe ye pe be E =
     let t : State = rows e c (whole a) s a in
     let pl : length p ≡ ends a = ap length pe ∙ length-drop (16 * whole a) a in
     let bd : b ≡ drop (16 * whole a) a ++ take (16 - ends a) fill = be ∙ completes p fill (omega arith) ∙ ap (λ n. p ++ take (16 - n) fill) pl ∙ ap (λ q. q ++ take (16 - ends a) fill) pe in
-    let L : last e c S (lanes x y) b ≡ last e c S t (drop (16 * whole a) a ++ take (16 - ends a) fill) = last_from e c S b t x y xe ye ∙ ap (last e c S t) bd in
+    let L : last e c S (lanes v.taking v.giving) b ≡ last e c S t (drop (16 * whole a) a ++ take (16 - ends a) fill) = last_from e c S b t v.taking v.giving xe ye ∙ ap (last e c S t) bd in
     let ge : g ≡ (last e c S t (drop (16 * whole a) a ++ take (16 - ends a) fill)).out = E.gives_is ∙ ap (λ (z : State). z.out) L in
     record {
       x_is = E.x_is ∙ ap (λ (z : State). z.x) L;
@@ -47,16 +48,16 @@ last_bytes g q l k j gl fit je qe le =
     )
 
 -- the end of a sealing
-pub sealed : (f : Functions) (H M : List ℕ) {tau S p b x y x' y' g z q T : List ℕ} {k : ℕ} → tau ≡ f.dig H → S ≡ size f (length M) → x ≡ (rows f.enc f.chain (whole M) (start f H) M).x → y ≡ (rows f.enc f.chain (whole M) (start f H) M).y
-    → p ≡ drop (16 * whole M) M → b ≡ take 16 (p ++ tau) → Ended f.enc f.chain S x y b x' y' g → z ≡ zed f (f.dig H) x' y' → q ≡ take (16 - k) (drop k g) → T ≡ take 16 (q ++ z) → k ≡ ends M → length g ≡ 16
+pub sealed : (f : Functions) (H M : List ℕ) {tau S p b g z q T : List ℕ} {v v' : Lanes} {k : ℕ} → tau ≡ f.dig H → S ≡ size f (length M) → v.taking ≡ (rows f.enc f.chain (whole M) (start f H) M).x → v.giving ≡ (rows f.enc f.chain (whole M) (start f H) M).y
+    → p ≡ drop (16 * whole M) M → b ≡ take 16 (p ++ tau) → Ended f.enc f.chain S v b v' g → z ≡ zed f (f.dig H) v'.taking v'.giving → q ≡ take (16 - k) (drop k g) → T ≡ take 16 (q ++ z) → k ≡ ends M → length g ≡ 16
     → ((rows f.enc f.chain (whole M) (start f H) M).out ++ take (ends M) g ≡ cipher f H M) × (T ≡ tag f H M)
 unfolding sealing
-sealed f H M {tau} {S} {p} {b} {x} {y} {x'} {y'} {g} {z} {q} {T} {k} te Se xe ye pe be E ze qe Te ke gl =
+sealed f H M {tau} {S} {p} {b} {g} {z} {q} {T} {v} {v'} {k} te Se xe ye pe be E ze qe Te ke gl =
     let s : State = start f H in
-    let C : Closed f.enc f.chain S s M tau x' y' g = closed f.enc f.chain S s M tau p b x y x' y' g xe ye pe be E in
+    let C : Closed f.enc f.chain S s M tau v' g = closed f.enc f.chain S s M tau p b v v' g xe ye pe be E in
     let Q : sheet f.enc f.chain S s M (take (16 - ends M) tau) ≡ sealing f H M = cc in
-    let x_is : x' ≡ (sealing f H M).x = C.x_is ∙ ap (λ (u : Sheet). u.x) Q in
-    let y_is : y' ≡ (sealing f H M).y = C.y_is ∙ ap (λ (u : Sheet). u.y) Q in
+    let x_is : v'.taking ≡ (sealing f H M).x = C.x_is ∙ ap (λ (u : Sheet). u.x) Q in
+    let y_is : v'.giving ≡ (sealing f H M).y = C.y_is ∙ ap (λ (u : Sheet). u.y) Q in
     let z_is : z ≡ zed f (f.dig H) (sealing f H M).x (sealing f H M).y = cc in
     let qd : q ≡ drop (ends M) g = qe ∙ ap (λ n. take (n - k) (drop k g)) (sym gl) ∙ take_rest g k ∙ ap (λ n. drop n g) ke in
     let qs : length q ≤ 16 = omega (arith, ap length qd, length-drop (ends M) g) in
@@ -85,36 +86,36 @@ some_tested f H C T G g true o pass fail = (o, pass refl)
 some_tested f H C T G g false o pass fail = fail refl
 
 -- the end of an opening
-pub tested : (f : Functions) (H C T : List ℕ) {tau S p b x y x' y' g z q u v w : List ℕ} {k j : ℕ} {padded tagged : Bool} → tau ≡ f.dig H → S ≡ size f (length C)
-    → x ≡ (rows f.dec f.chain (whole C) (turned (start f H)) C).x → y ≡ (rows f.dec f.chain (whole C) (turned (start f H)) C).y → p ≡ drop (16 * whole C) C → b ≡ take 16 (p ++ T) → Ended f.dec f.chain S x y b x' y' g
-    → z ≡ zed f (f.dig H) y' x' → q ≡ take k g → u ≡ take 16 (q ++ tau) → v ≡ take j T → w ≡ take 16 (v ++ z) → k ≡ ends C → j ≡ 16 - ends C → length g ≡ 16 → length T ≡ 16
+pub tested : (f : Functions) (H C T : List ℕ) {tau S p b g z q u r w : List ℕ} {v v' : Lanes} {k j : ℕ} {padded tagged : Bool} → tau ≡ f.dig H → S ≡ size f (length C)
+    → v.taking ≡ (rows f.dec f.chain (whole C) (turned (start f H)) C).x → v.giving ≡ (rows f.dec f.chain (whole C) (turned (start f H)) C).y → p ≡ drop (16 * whole C) C → b ≡ take 16 (p ++ T) → Ended f.dec f.chain S v b v' g
+    → z ≡ zed f (f.dig H) v'.giving v'.taking → q ≡ take k g → u ≡ take 16 (q ++ tau) → r ≡ take j T → w ≡ take 16 (r ++ z) → k ≡ ends C → j ≡ 16 - ends C → length g ≡ 16 → length T ≡ 16
     → (padded ≡ true → g ≡ u) → (padded ≡ false → g ≡ u → ⊥) → (tagged ≡ true → T ≡ w) → (tagged ≡ false → T ≡ w → ⊥)
     → Tested f H C T (rows f.dec f.chain (whole C) (turned (start f H)) C).out (then_some (padded && tagged) g)
 unfolding opening
-tested f H C T {tau} {S} {p} {b} {x} {y} {x'} {y'} {g} {z} {q} {u} {v} {w} {k} {j} {padded} {tagged} te Se xe ye pe be E ze qe ue ve we ke je gl Tl p-yes p-no t-yes t-no =
+tested f H C T {tau} {S} {p} {b} {g} {z} {q} {u} {r} {w} {v} {v'} {k} {j} {padded} {tagged} te Se xe ye pe be E ze qe ue ve we ke je gl Tl p-yes p-no t-yes t-no =
     let s : State = turned (start f H) in
-    let X : Closed f.dec f.chain S s C T x' y' g = closed f.dec f.chain S s C T p b x y x' y' g xe ye pe be E in
+    let X : Closed f.dec f.chain S s C T v' g = closed f.dec f.chain S s C T p b v v' g xe ye pe be E in
     let Q : sheet f.dec f.chain S s C (take (16 - ends C) T) ≡ opening f H C T = cc in
-    let x_is : x' ≡ (opening f H C T).x = X.x_is ∙ ap (λ (o : Sheet). o.x) Q in
-    let y_is : y' ≡ (opening f H C T).y = X.y_is ∙ ap (λ (o : Sheet). o.y) Q in
+    let x_is : v'.taking ≡ (opening f H C T).x = X.x_is ∙ ap (λ (o : Sheet). o.x) Q in
+    let y_is : v'.giving ≡ (opening f H C T).y = X.y_is ∙ ap (λ (o : Sheet). o.y) Q in
     let z_is : z ≡ zed f (f.dig H) (opening f H C T).y (opening f H C T).x = cc in
     let r-is : drop (ends C) g ≡ (opening f H C T).rest = X.rest ∙ ap (λ (o : Sheet). o.rest) Q in
     let qe' : q ≡ take (ends C) g = qe ∙ ap (λ n. take n g) ke in
-    let ve' : v ≡ take (16 - ends C) T = ve ∙ ap (λ n. take n T) je in
+    let ve' : r ≡ take (16 - ends C) T = ve ∙ ap (λ n. take n T) je in
     let few : ends C ≤ 16 = omega arith in
     let back : 16 - (16 - ends C) ≡ ends C = omega arith in
     let few' : 16 - ends C ≤ 16 = omega arith in
     let both : padded && tagged ≡ true → Tests f H C T =
-    λ r.
-    let b = and_parts padded tagged r in
+    λ e.
+    let b = and_parts padded tagged e in
     record {
       fill = sym r-is ∙ ends_with g tau (ends C) gl few u q qe' ue (p-yes b.0) ∙ ap (take (16 - ends C)) te;
-      check = ends_with T z (16 - ends C) Tl few' w v ve' we (t-yes b.1) ∙ ap₂ take back z_is;
+      check = ends_with T z (16 - ends C) Tl few' w r ve' we (t-yes b.1) ∙ ap₂ take back z_is;
     } in
     let fails : padded && tagged ≡ false → Tests f H C T → ⊥ =
-    λ r t.
-    elim (and_cases padded tagged r) [
+    λ e t.
+    elim (and_cases padded tagged e) [
       | inl i ↦ p-no i (with_ends g tau (ends C) gl few u q qe' ue (r-is ∙ t.fill ∙ ap (take (16 - ends C)) (sym te)))
-      | inr i ↦ t-no i (with_ends T z (16 - ends C) Tl few' w v ve' we (t.check ∙ ap₂ take (sym back) (sym z_is)))
+      | inr i ↦ t-no i (with_ends T z (16 - ends C) Tl few' w r ve' we (t.check ∙ ap₂ take (sym back) (sym z_is)))
     ] in
     some_tested f H C T (rows f.dec f.chain (whole C) s C).out g (padded && tagged) (X.out ∙ ap (λ (o : Sheet). o.out) Q) both fails

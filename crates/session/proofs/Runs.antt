@@ -6,30 +6,31 @@ use Rattle.std.proofs.Math.Seq.{drop-append-add}
 use Rattle.std.proofs.lemmas.List.{drop-drop, take_at, length-drop, length-take-le, length-append}
 use Rattle.poet.specs.Bytes.{block}
 use Rattle.poet.specs.Rows.{State, takes, gives, next, rows}
+use Rattle.session.specs.declared.rows.Lanes.{Lanes}
 use Rattle.session.specs.Steps.{lanes, Stepped, Ran}
 
-pub ran_none : (e c : List ℕ → List ℕ) (x y a o : List ℕ) → Ran e c x y a o 0 x y o
+pub ran_none : (e c : List ℕ → List ℕ) (s : Lanes) (a o : List ℕ) → Ran e c s a o 0 s o
 unfolding rows
-ran_none e c x y a o = record { x_is = refl; y_is = refl; front = refl; rest = refl }
+ran_none e c s a o = record { x_is = refl; y_is = refl; front = refl; rest = refl }
 
 -- one row more: b is the block, and w, which comes of it, is written at 16 * n
-pub ran_more : (e c : List ℕ → List ℕ) (x y a o : List ℕ) (n : ℕ) (x' y' o' : List ℕ) → Ran e c x y a o n x' y' o' → (b x'' y'' g w : List ℕ) (k : ℕ) → Stepped e c x' y' b x'' y'' g → b ≡ block n a → w ≡ g → k ≡ 16 → length w ≡ 16
-    → length o' ≡ length o → 16 * (n + 1) ≤ length o → Ran e c x y a o (n + 1) x'' y'' (put_mid (16 * n) k o' w)
+pub ran_more : (e c : List ℕ → List ℕ) (s : Lanes) (a o : List ℕ) (n : ℕ) (s' : Lanes) (o' : List ℕ) → Ran e c s a o n s' o' → (b : List ℕ) (s'' : Lanes) (g w : List ℕ) (k : ℕ) → Stepped e c s' b s'' g → b ≡ block n a → w ≡ g → k ≡ 16 → length w ≡ 16
+    → length o' ≡ length o → 16 * (n + 1) ≤ length o → Ran e c s a o (n + 1) s'' (put_mid (16 * n) k o' w)
 unfolding rows next takes gives
-ran_more e c x y a o n x' y' o' r b x'' y'' g w k s be we ke lw lo room =
+ran_more e c s a o n s' o' r b s'' g w k t be we ke lw lo room =
     let e16 : 16 * (n + 1) ≡ 16 * n + 16 = omega arith in
-    let m : rows e c (n + 1) (lanes x y) a ≡ next e c (rows e c n (lanes x y) a) (block n a) = rw add-one refl in
+    let m : rows e c (n + 1) (lanes s.taking s.giving) a ≡ next e c (rows e c n (lanes s.taking s.giving) a) (block n a) = rw add-one refl in
     let xx = r.x_is in
     let yy = r.y_is in
-    let sx = s.x_is in
-    let sy = s.y_is in
-    let sg = s.gives_is in
+    let sx = t.x_is in
+    let sy = t.y_is in
+    let sg = t.gives_is in
     record {
       x_is = cc;
       y_is = cc;
       front =
           take-put_mid (16 * n) k o' w (16 * (n + 1)) (omega arith) (omega arith)
-          ∙ (ap (λ z. z ++ w) r.front ∙ ap (λ z. (rows e c n (lanes x y) a).out ++ z) (let q : w ≡ gives e c (rows e c n (lanes x y) a) (block n a) = cc in q)) ∙ sym (ap (λ (q : State). q.out) m);
+          ∙ (ap (λ z. z ++ w) r.front ∙ ap (λ z. (rows e c n (lanes s.taking s.giving) a).out ++ z) (let q : w ≡ gives e c (rows e c n (lanes s.taking s.giving) a) (block n a) = cc in q)) ∙ sym (ap (λ (q : State). q.out) m);
       rest =
           drop-put_mid (16 * n) k o' w (16 * (n + 1)) (omega arith) (omega arith) (omega arith)
           ∙ (ap (λ z. drop z o') e16 ∙ (sym (drop-drop 16 (16 * n) o') ∙ (ap (λ z. drop 16 z) r.rest ∙ (drop-drop 16 (16 * n) o ∙ ap (λ z. drop z o) (sym e16)))));

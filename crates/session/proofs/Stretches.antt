@@ -9,6 +9,7 @@ use Rattle.poet.proofs.Turn.{Ways, turn}
 use Rattle.poet.proofs.Opening.{ways, start_kept, start_out, turned_kept}
 use Rattle.session.specs.Directions.{Direction, sealing, opening, picks, turns}
 use Rattle.session.specs.Runs.{Run}
+use Rattle.session.specs.declared.rows.Lanes.{Lanes}
 use Rattle.session.specs.Steps.{lanes, Ran}
 use Rattle.session.specs.Sessions.{rows_of}
 
@@ -51,11 +52,11 @@ module _ (e c : List ℕ → List ℕ) (s : State) (M P u : List ℕ) (n : ℕ) 
       ap (λ k. rows e c k s (M ++ P)) ne ∙ rows_add e c (whole M) n s (M ++ P) ∙ ap₂ (rows e c n) (rows_front e c (whole M) s M P l) (drop-append-le (16 * whole M) M P l ∙ sym ue)
 
   -- where they stand, and what is left
-  pub stretched : (x y o x' y' o' G : List ℕ) → x ≡ (rows e c (whole M) s M).x → y ≡ (rows e c (whole M) s M).y → G ≡ (rows e c (whole M) s M).out → Ran e c x y u o n x' y' o'
-      → (x' ≡ (rows e c (whole (M ++ P)) s (M ++ P)).x) × (y' ≡ (rows e c (whole (M ++ P)) s (M ++ P)).y) × (G ++ take (16 * n) o' ≡ (rows e c (whole (M ++ P)) s (M ++ P)).out)
-  stretched x y o x' y' o' G xe ye ge R =
+  pub stretched : (v : Lanes) (o : List ℕ) (v' : Lanes) (o' G : List ℕ) → v.taking ≡ (rows e c (whole M) s M).x → v.giving ≡ (rows e c (whole M) s M).y → G ≡ (rows e c (whole M) s M).out → Ran e c v u o n v' o'
+      → (v'.taking ≡ (rows e c (whole (M ++ P)) s (M ++ P)).x) × (v'.giving ≡ (rows e c (whole (M ++ P)) s (M ++ P)).y) × (G ++ take (16 * n) o' ≡ (rows e c (whole (M ++ P)) s (M ++ P)).out)
+  stretched v o v' o' G xe ye ge R =
       let t : State = rows e c (whole M) s M in
-      let q : rows e c (whole (M ++ P)) s (M ++ P) ≡ record { x = (rows e c n (lanes x y) u).x; y = (rows e c n (lanes x y) u).y; out = t.out ++ (rows e c n (lanes x y) u).out } =
+      let q : rows e c (whole (M ++ P)) s (M ++ P) ≡ record { x = (rows e c n (lanes v.taking v.giving) u).x; y = (rows e c n (lanes v.taking v.giving) u).y; out = t.out ++ (rows e c n (lanes v.taking v.giving) u).out } =
       on ∙ rows_lanes e c n t u ∙ ap₂ (λ a b. record { x = (rows e c n (lanes a b) u).x; y = (rows e c n (lanes a b) u).y; out = t.out ++ (rows e c n (lanes a b) u).out }) (sym xe) (sym ye) in (
         R.x_is ∙ sym (ap (λ (z : State). z.x) q),
         R.y_is ∙ sym (ap (λ (z : State). z.y) q),

@@ -1,6 +1,8 @@
--- What the inner steps do, by the rows of the mode. Here e is E or D, c the chaining hash, and x and y stand where blocks come in and go out.
+-- What the inner steps do, by the rows of the mode. Here e is E or D, c the chaining hash, and the lanes s, which become s', are the blocks
+-- where blocks come in and go out.
 use Rattle.std.specs.Prelude.{◌≡◌, ℕ, ◌-◌, ◌*◌, List, [], ◌++◌, take, drop, Some, None, Option}
 use Rattle.poet.specs.Functions.{Functions}
+use Rattle.session.specs.declared.rows.Lanes.{Lanes}
 use Rattle.poet.specs.Rows.{State, takes, gives, rows, last, ends, zed, opening, opened}
 
 -- x and y, and nothing given out yet
@@ -8,22 +10,22 @@ abbrev pub lanes : List ℕ → List ℕ → State
 lanes x y = record { x = x; y = y; out = [] }
 
 -- one row over the block b, which gives g
-pub record Stepped (e c : List ℕ → List ℕ) (x y b x' y' g : List ℕ) : Type 0 where
-  pub x_is : x' ≡ takes c (lanes x y) b
-  pub y_is : y' ≡ e (takes c (lanes x y) b)
-  pub gives_is : g ≡ gives e c (lanes x y) b
+pub record Stepped (e c : List ℕ → List ℕ) (s : Lanes) (b : List ℕ) (s' : Lanes) (g : List ℕ) : Type 0 where
+  pub x_is : s'.taking ≡ takes c (lanes s.taking s.giving) b
+  pub y_is : s'.giving ≡ e (takes c (lanes s.taking s.giving) b)
+  pub gives_is : g ≡ gives e c (lanes s.taking s.giving) b
 
 -- the last row, with the mask S
-pub record Ended (e c : List ℕ → List ℕ) (S x y b x' y' g : List ℕ) : Type 0 where
-  pub x_is : x' ≡ (last e c S (lanes x y) b).x
-  pub y_is : y' ≡ (last e c S (lanes x y) b).y
-  pub gives_is : g ≡ (last e c S (lanes x y) b).out
+pub record Ended (e c : List ℕ → List ℕ) (S : List ℕ) (s : Lanes) (b : List ℕ) (s' : Lanes) (g : List ℕ) : Type 0 where
+  pub x_is : s'.taking ≡ (last e c S (lanes s.taking s.giving) b).x
+  pub y_is : s'.giving ≡ (last e c S (lanes s.taking s.giving) b).y
+  pub gives_is : g ≡ (last e c S (lanes s.taking s.giving) b).out
 
 -- n rows over the bytes a; what they gave stands at the front of o', which was o
-pub record Ran (e c : List ℕ → List ℕ) (x y a o : List ℕ) (n : ℕ) (x' y' o' : List ℕ) : Type 0 where
-  pub x_is : x' ≡ (rows e c n (lanes x y) a).x
-  pub y_is : y' ≡ (rows e c n (lanes x y) a).y
-  pub front : take (16 * n) o' ≡ (rows e c n (lanes x y) a).out
+pub record Ran (e c : List ℕ → List ℕ) (s : Lanes) (a o : List ℕ) (n : ℕ) (s' : Lanes) (o' : List ℕ) : Type 0 where
+  pub x_is : s'.taking ≡ (rows e c n (lanes s.taking s.giving) a).x
+  pub y_is : s'.giving ≡ (rows e c n (lanes s.taking s.giving) a).y
+  pub front : take (16 * n) o' ≡ (rows e c n (lanes s.taking s.giving) a).out
   pub rest : drop (16 * n) o' ≡ drop (16 * n) o
 
 -- the two tests of an opening of C under the header H with the tag T

@@ -69,7 +69,7 @@ pub struct Lanes {
 impl<S: Suite> Engine<S> {
     // One row: the block that it gives, with both sequences one block on.
     fn row<W: Way>(&self, lanes: Lanes, block: [u8; 16]) -> (Lanes, [u8; 16])
-        ensures { (f : Functions) (H : List ℕ) → EngineAt S.Permutation.Permutation S.ChainingHash.ChainingHash f H self.now → Stepped (picks W.Way.way f.enc f.dec) f.chain lanes.taking lanes.giving block result.0.taking result.0.giving result.1 }
+        ensures { (f : Functions) (H : List ℕ) → EngineAt S.Permutation.Permutation S.ChainingHash.ChainingHash f H self.now → Stepped (picks W.Way.way f.enc f.dec) f.chain lanes block result.0 result.1 }
     {
         let taking = xor(block, self.hash.hash(lanes.taking));
         let giving = W::pass(&self.permutation, taking);
@@ -84,7 +84,7 @@ impl<S: Suite> Engine<S> {
         mask: [u8; 16],
         block: [u8; 16],
     ) -> (Lanes, [u8; 16])
-        ensures { (f : Functions) (H : List ℕ) → EngineAt S.Permutation.Permutation S.ChainingHash.ChainingHash f H self.now → Ended (picks W.Way.way f.enc f.dec) f.chain mask lanes.taking lanes.giving block result.0.taking result.0.giving result.1 }
+        ensures { (f : Functions) (H : List ℕ) → EngineAt S.Permutation.Permutation S.ChainingHash.ChainingHash f H self.now → Ended (picks W.Way.way f.enc f.dec) f.chain mask lanes block result.0 result.1 }
     {
         let taking = xor(xor(block, mask), self.hash.hash(lanes.taking));
         let giving = W::pass(&self.permutation, taking);
@@ -104,7 +104,7 @@ impl<S: Suite> Engine<S> {
     ) -> Lanes
         requires within { 16 * n ≤ length held.old + length input.now }
         requires room { 16 * n ≤ length out.old }
-        ensures ran { (f : Functions) (H : List ℕ) → EngineAt S.Permutation.Permutation S.ChainingHash.ChainingHash f H self.now → Ran (picks W.Way.way f.enc f.dec) f.chain lanes.taking lanes.giving (held.old ++ input.now) out.old n result.taking result.giving out.new }
+        ensures ran { (f : Functions) (H : List ℕ) → EngineAt S.Permutation.Permutation S.ChainingHash.ChainingHash f H self.now → Ran (picks W.Way.way f.enc f.dec) f.chain lanes (held.old ++ input.now) out.old n result out.new }
         ensures left { held.new ≡ take 16 (drop (16 * n) (held.old ++ input.now)) }
     {
         let mut lanes = lanes;
