@@ -30,7 +30,7 @@ doors_bytes : Bytes (bytes doors)
 unfolding Bytes
 doors_bytes = (lit< tt, (lit< tt, (lit< tt, (lit< tt, (lit< tt, (lit< tt, (lit< tt, (lit< tt, (lit< tt, (lit< tt, (lit< tt, (lit< tt, tt))))))))))))
 
-body_figure : (held brought : ℕ) → BodyFigure held brought (given_of (held + brought)).written (given_of (held + brought)).held
+body_figure : (held brought : ℕ) → BodyFigure held brought (given_of (held + brought)).0 (given_of (held + brought)).1
 body_figure held brought n s h b free = ap (λ o. Body (answered o (given_of (held_of n + length s.bytes.now)))) free ∙ ap₂ (λ (x y : ℕ). Body (Ok (given_of (x + y)))) h b
 
 pub figures : Figures

@@ -10,7 +10,7 @@ use Rattle.listing.specs.Lines.{need}
 
 -- A body call that is not refused, with so many bytes held from calls before it and so many brought, gives so many and then holds so many.
 abbrev pub BodyFigure : (held brought gives holds : ℕ) → Type 0
-BodyFigure held brought gives holds = (n : ℕ) (s : Stretch) → held_of n ≡ held → length s.bytes.now ≡ brought → body_check_of n s ≡ None → body_answer n s ≡ Body (Ok (record { written = gives; held = holds }))
+BodyFigure held brought gives holds = (n : ℕ) (s : Stretch) → held_of n ≡ held → length s.bytes.now ≡ brought → body_check_of n s ≡ None → body_answer n s ≡ Body (Ok (gives, holds))
 
 -- the entry with the code DOORSH01, the count 2 and no other field
 abbrev pub doors : Item

@@ -2,7 +2,6 @@
 use hexits::Hex;
 use session::logs::Played;
 use session::script::{Answer, End};
-use session::types::Given;
 
 pub(crate) fn report(rt: &HostRuntime, played: (Played, End)) -> anyhow::Result<()> {
     let (log, end) = played;
@@ -24,9 +23,7 @@ fn line(rt: &HostRuntime, answer: &Answer) -> anyhow::Result<()> {
     match answer {
         Answer::Header(Ok(())) => println!(rt; "header: taken")?,
         Answer::Header(Err(fault)) => println!(rt; "header: {fault}")?,
-        Answer::Body(Ok(Given { written, held })) => println!(rt;
-            "body: given {written}, held {held}"
-        )?,
+        Answer::Body(Ok((given, held))) => println!(rt; "body: given {given}, held {held}")?,
         Answer::Body(Err(fault)) => println!(rt; "body: {fault}")?,
         Answer::Finish(Ok(last)) => println!(rt; "finish: accepted, last {last}")?,
         Answer::Finish(Err(fault)) => println!(rt; "finish: {fault}")?,

@@ -10,7 +10,6 @@ use Rattle.suite.specs.declared.ChainingHash as hash
 use Rattle.suite.specs.declared.HeaderDigest as digest
 use Rattle.session.specs.declared.types.Heading.{Heading}
 use Rattle.session.specs.declared.rows.Way as way
-use Rattle.session.specs.declared.types.Given.{Given}
 use Rattle.session.specs.declared.types.Session.{Session}
 use Rattle.session.specs.Calls.{FillBy}
 use Rattle.session.specs.Runs.{Run, headed}
@@ -26,7 +25,7 @@ header_ok R P s s' r l c =
     let e : ltb 65536 (length R.header + length P) ≡ false = le-ltb 65536 (length R.header + length P) l in
     rw e at c
 
-pub body_ok : {A W B C D : Type 0} {u : suite.Ghosts A B C D} {p : permutation.Ghosts B} {h : hash.Ghosts C} {d : digest.Ghosts D} {w : way.Ghosts W} (R : Run) (P o o' : List ℕ) (s s' : Session A W B C D u p h d w) (r : Result Given (Placed SessionFault))
+pub body_ok : {A W B C D : Type 0} {u : suite.Ghosts A B C D} {p : permutation.Ghosts B} {h : hash.Ghosts C} {d : digest.Ghosts D} {w : way.Ghosts W} (R : Run) (P o o' : List ℕ) (s s' : Session A W B C D u p h d w) (r : Result (ℕ × ℕ) (Placed SessionFault))
     → length R.body + length P ≤ 1048576 → writes (held R + length P) ≤ length o → BodyBy (body_check (length R.body) (held R) (length P) (length o)) R P o o' s s' r → BodyTaken R P o o' s' r
 body_ok R P o o' s s' r l m c =
     let e : ltb 1048576 (length R.body + length P) ≡ false = le-ltb 1048576 (length R.body + length P) l in

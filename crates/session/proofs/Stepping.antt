@@ -13,7 +13,6 @@ use Rattle.session.specs.declared.script.Answer.TheVariants.{Header, Body}
 use Rattle.session.specs.declared.script.Stretch.{Stretch}
 use Rattle.session.specs.declared.types.Heading.{Heading}
 use Rattle.session.specs.declared.rows.Way as way
-use Rattle.session.specs.declared.types.Given.{Given}
 use Rattle.session.specs.declared.types.Session.{Session}
 use Rattle.session.specs.Calls.{answered}
 use Rattle.session.specs.Runs.{Run}
@@ -60,11 +59,11 @@ module _ {A B C D : Type 0} {u : suite.Ghosts A B C D} {x : permutation.Ghosts B
       }
 
 module _ {A W B C D : Type 0} {u : suite.Ghosts A B C D} {x : permutation.Ghosts B} {y : hash.Ghosts C} {z : digest.Ghosts D} {w : way.Ghosts W} where
-  body_answer_is : (o : Option (Placed SessionFault)) (R : Run) (P b b' : List ℕ) (s s' : Session A W B C D u x y z w) (r : Result Given (Placed SessionFault)) → BodyBy o R P b b' s s' r → r ≡ answered o (given_of (held R + length P))
+  body_answer_is : (o : Option (Placed SessionFault)) (R : Run) (P b b' : List ℕ) (s s' : Session A W B C D u x y z w) (r : Result (ℕ × ℕ) (Placed SessionFault)) → BodyBy o R P b b' s s' r → r ≡ answered o (given_of (held R + length P))
   body_answer_is None R P b b' s s' r h = h.answer
   body_answer_is (Some e) R P b b' s s' r h = h.0
 
-  body_stands : (o : Option (Placed SessionFault)) (R : Run) (P b b' : List ℕ) (s s' : Session A W B C D u x y z w) (r : Result Given (Placed SessionFault)) → BodyBy o R P b b' s s' r → SessionAt R s
+  body_stands : (o : Option (Placed SessionFault)) (R : Run) (P b b' : List ℕ) (s s' : Session A W B C D u x y z w) (r : Result (ℕ × ℕ) (Placed SessionFault)) → BodyBy o R P b b' s s' r → SessionAt R s
       → SessionAt (record { key = R.key; header = R.header; body = taken o R.body P; out = R.out ++ written_of (answered o (given_of (held R + length P))) b' }) s'
   body_stands None R P b b' s s' r h a = h.at
   body_stands (Some e) R P b b' s s' r h a =
@@ -77,7 +76,7 @@ module _ {A W B C D : Type 0} {u : suite.Ghosts A B C D} {x : permutation.Ghosts
     held_same R s a = let o = out_length (u.under R.key) (L R.key a.taken.key_block) w.way R a.taken.header_bytes a.taken.body_bytes a.out_is in omega arith
 
     -- a body call that answered r and wrote b' over b: the log p became p'
-    pub body_played : (t : Stretch) (p p' : Played) (s s' : Session A W B C D u x y z w) (b b' : List ℕ) (r : Result Given (Placed SessionFault)) → length b ≡ t.room
+    pub body_played : (t : Stretch) (p p' : Played) (s s' : Session A W B C D u x y z w) (b b' : List ℕ) (r : Result (ℕ × ℕ) (Placed SessionFault)) → length b ≡ t.room
         → ((key : List ℕ) → SessionAt (run_of key p) s → BodyBy (body_check (length (vec_items p.body)) (held (run_of key p)) (length t.bytes.now) (length b)) (run_of key p) t.bytes.now b b' s s' r) → BodyKept r t.bytes.now b' p p'
         → BodyPlayed (t ∷ []) p p' s s'
     body_played t p p' s s' b b' r room h K =

@@ -13,19 +13,18 @@ use Rattle.suite.specs.declared.Permutation as permutation
 use Rattle.suite.specs.declared.ChainingHash as hash
 use Rattle.suite.specs.declared.HeaderDigest as digest
 use Rattle.session.specs.declared.rows.Way as way
-use Rattle.session.specs.declared.types.Given.{Given}
 use Rattle.session.specs.declared.types.Session.{Session}
 use Rattle.session.specs.Runs.{fresh, headed}
 use Rattle.session.specs.Sessions.{held, writes, given_of, BodyTaken, SealFinished, OpenJudged}
 use Rattle.session.specs.Straight.{run, Begun, OpenRefusal}
 
 -- the header and the body were taken by a new session
-pub begun : {A W B C D : Type 0} {u : suite.Ghosts A B C D} {p : permutation.Ghosts B} {h : hash.Ghosts C} {d : digest.Ghosts D} {w : way.Ghosts W} (key H a o o' : List ℕ) (s : Session A W B C D u p h d w) (n : Given) → BodyTaken (headed (fresh key) H) a o o' s (Ok n)
-    → Begun key H a o o' s n.written
+pub begun : {A W B C D : Type 0} {u : suite.Ghosts A B C D} {p : permutation.Ghosts B} {h : hash.Ghosts C} {d : digest.Ghosts D} {w : way.Ghosts W} (key H a o o' : List ℕ) (s : Session A W B C D u p h d w) (n : ℕ × ℕ) → BodyTaken (headed (fresh key) H) a o o' s (Ok n)
+    → Begun key H a o o' s n.0
 begun key H a o o' s n t =
     let z : 0 + length a ≡ length a = zero-add (length a) in
     let e : n ≡ given_of (length a) = cc (rw z at t.answer) in
-    record { written_is = ap (λ (i : Given). i.written) e; rest = rw z at t.rest; at = rw z at t.at }
+    record { written_is = ap (λ (i : ℕ × ℕ). i.0) e; rest = rw z at t.rest; at = rw z at t.at }
 
 -- lists that are the same from n on are so from k on
 pub past_front : (n k : ℕ) (a b : List ℕ) → n ≤ k → drop n a ≡ drop n b → drop k a ≡ drop k b

@@ -4,7 +4,6 @@ use Rattle.fault.specs.declared.kinds.SessionFault.{SessionFault}
 use Rattle.fault.specs.declared.kinds.Placed.{Placed}
 use Rattle.session.specs.declared.logs.Played.{Played}
 use Rattle.session.specs.declared.script.Answer.TheVariants.{Header, Body, Finish}
-use Rattle.session.specs.declared.types.Given.{Given}
 
 -- the bytes that a call brought, if it was heeded
 abbrev pub kept : {X : Type 0} → Result X (Placed SessionFault) → List ℕ → List ℕ
@@ -12,8 +11,8 @@ kept (Ok x) P = P
 kept (Err e) P = []
 
 -- the front of the buffer that a body call wrote to
-abbrev pub written_of : Result Given (Placed SessionFault) → List ℕ → List ℕ
-written_of (Ok n) b = take n.written b
+abbrev pub written_of : Result (ℕ × ℕ) (Placed SessionFault) → List ℕ → List ℕ
+written_of (Ok n) b = take n.0 b
 written_of (Err e) b = []
 
 -- the front of the place that a finish wrote to
@@ -27,7 +26,7 @@ pub record HeaderKept (r : Result (Unit {0}) (Placed SessionFault)) (P : List �
   pub out : p'.out ≡ p.out
   pub answers : vec_items p'.answers ≡ vec_items p.answers ++ Header r ∷ []
 
-pub record BodyKept (r : Result Given (Placed SessionFault)) (P b : List ℕ) (p p' : Played) : Type 0 where
+pub record BodyKept (r : Result (ℕ × ℕ) (Placed SessionFault)) (P b : List ℕ) (p p' : Played) : Type 0 where
   pub header : p'.header ≡ p.header
   pub body : vec_items p'.body ≡ vec_items p.body ++ kept r P
   pub out : vec_items p'.out ≡ vec_items p.out ++ written_of r b

@@ -13,7 +13,6 @@ use Rattle.suite.specs.declared.ChainingHash as hash
 use Rattle.suite.specs.declared.HeaderDigest as digest
 use Rattle.session.specs.declared.types.Heading.{Heading}
 use Rattle.session.specs.declared.rows.Way as way
-use Rattle.session.specs.declared.types.Given.{Given}
 use Rattle.session.specs.declared.types.Session.{Session}
 use Rattle.session.specs.Engines.{EngineAt}
 use Rattle.session.specs.Calls.{tag_check}
@@ -71,20 +70,20 @@ body_check taken held more room =
     (cond (nat_lt room (writes (held + more))) (Some (record { fault = Room; place = taken })) None)
 
 -- what it answers
-abbrev pub given_of : ℕ → Given
-given_of t = record { written = writes t; held = t - writes t }
+abbrev pub given_of : ℕ → ℕ × ℕ
+given_of t = (writes t, t - writes t)
 
 -- the bytes held back
 abbrev pub held : Run → ℕ
 held R = length R.body - length R.out
 
-pub record BodyTaken {A W B C D : Type 0} {u : suite.Ghosts A B C D} {p : permutation.Ghosts B} {h : hash.Ghosts C} {d : digest.Ghosts D} {w : way.Ghosts W} (R : Run) (P o o' : List ℕ) (s' : Session A W B C D u p h d w) (r : Result Given (Placed SessionFault)) : Type 0 where
+pub record BodyTaken {A W B C D : Type 0} {u : suite.Ghosts A B C D} {p : permutation.Ghosts B} {h : hash.Ghosts C} {d : digest.Ghosts D} {w : way.Ghosts W} (R : Run) (P o o' : List ℕ) (s' : Session A W B C D u p h d w) (r : Result (ℕ × ℕ) (Placed SessionFault)) : Type 0 where
   pub answer : r ≡ Ok (given_of (held R + length P))
   pub rest : drop (writes (held R + length P)) o' ≡ drop (writes (held R + length P)) o
   pub at : SessionAt (bodied R P (take (writes (held R + length P)) o')) s'
   pub blocks : Blocks w.way (u.under R.key) (bodied R P (take (writes (held R + length P)) o'))
 
-abbrev pub BodyBy : {A W B C D : Type 0} {u : suite.Ghosts A B C D} {p : permutation.Ghosts B} {h : hash.Ghosts C} {d : digest.Ghosts D} {w : way.Ghosts W} → Option (Placed SessionFault) → Run → (P o o' : List ℕ) → (s s' : Session A W B C D u p h d w) → Result Given (Placed SessionFault) → Type 0
+abbrev pub BodyBy : {A W B C D : Type 0} {u : suite.Ghosts A B C D} {p : permutation.Ghosts B} {h : hash.Ghosts C} {d : digest.Ghosts D} {w : way.Ghosts W} → Option (Placed SessionFault) → Run → (P o o' : List ℕ) → (s s' : Session A W B C D u p h d w) → Result (ℕ × ℕ) (Placed SessionFault) → Type 0
 BodyBy (Some e) R P o o' s s' r = (r ≡ Err e) × (s' ≡ s) × (o' ≡ o)
 BodyBy None R P o o' s s' r = BodyTaken R P o o' s' r
 

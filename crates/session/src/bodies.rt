@@ -5,15 +5,19 @@ ghost use Rattle.session.specs.Sessions.{BodyBy, SessionAt, body_check, held};
 
 use crate::checks::BODY_MOST;
 use crate::rows::Way;
-use crate::types::{Given, Session};
+use crate::types::Session;
 use fault::kinds::{Placed, SessionFault};
 use suite::Suite;
 
 impl<S: Suite, W: Way> Session<S, W> {
     // Takes a stretch of the message, or of an opening's ciphertext, and writes to `out` every whole block that at least one more byte
-    // follows.
-    pub fn body(&mut self, input: &[u8], out: &mut [u8]) -> Result<Given, Placed<SessionFault>>
-        ensures room { IfOk result (λ given. given.written ≤ length out.old) }
+    // follows. Answers the bytes written and the bytes held: kept a pair, by a rule of the project.
+    pub fn body(
+        &mut self,
+        input: &[u8],
+        out: &mut [u8],
+    ) -> Result<(usize, usize), Placed<SessionFault>>
+        ensures room { IfOk result (λ n. n.0 ≤ length out.old) }
         ensures call { (R : Run) → SessionAt R self.old → BodyBy (body_check (length R.body) (held R) (length input.now) (length out.old)) R input.now out.old out.new self.old self.new result }
     {
         if input.len() > BODY_MOST - self.total {
@@ -35,9 +39,6 @@ impl<S: Suite, W: Way> Session<S, W> {
             .engine
             .run::<W>(self.lanes, &mut self.held, input, out, n);
         self.total += input.len();
-        Ok(Given {
-            written,
-            held: t - written,
-        })
+        Ok((written, t - written))
     }
 }

@@ -3,7 +3,6 @@ ghost use Rattle.std.specs.Prelude.{◌≡◌, ◌≤◌, [], length, IfOk, OnOk
 ghost use Rattle.session.specs.Logs.{BodyKept, FinishKept, HeaderKept};
 
 use crate::script::Answer;
-use crate::types::Given;
 use fault::kinds::{Placed, SessionFault};
 use std::alloc::{AllocError, Global};
 
@@ -51,14 +50,14 @@ impl Played {
         &mut self,
         bytes: &[u8],
         buffer: &[u8],
-        answer: Result<Given, Placed<SessionFault>>,
+        answer: Result<(usize, usize), Placed<SessionFault>>,
     ) -> Result<(), AllocError>
-        requires { IfOk answer (λ given. given.written ≤ length buffer.now) }
+        requires { IfOk answer (λ n. n.0 ≤ length buffer.now) }
         ensures { OnOk result (BodyKept answer bytes.now buffer.now self.old self.new) }
     {
-        if let Ok(given) = answer {
+        if let Ok((written, _)) = answer {
             self.body.extend_from_slice(bytes)?;
-            self.out.extend_from_slice(&buffer[..given.written])?;
+            self.out.extend_from_slice(&buffer[..written])?;
         }
         self.answers.push(Answer::Body(answer))?;
         Ok(())

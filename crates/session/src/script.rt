@@ -1,5 +1,4 @@
 // A written session: any legal list of calls from new on, and what came of it.
-use crate::types::Given;
 use fault::kinds::{Placed, SessionFault};
 
 // One stretch of bytes for a header call, or for a body call with the room that it offers.
@@ -13,7 +12,7 @@ pub struct Stretch<'a> {
 #[derive(Debug, PartialEq, Eq, Clone, Copy)]
 pub enum Answer {
     Header(Result<(), Placed<SessionFault>>),
-    Body(Result<Given, Placed<SessionFault>>),
+    Body(Result<(usize, usize), Placed<SessionFault>>),
     Finish(Result<usize, Placed<SessionFault>>),
 }
 

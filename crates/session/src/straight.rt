@@ -23,8 +23,8 @@ fn begun<S: Suite, W: Way>(
     let mut heading = Heading::<S>::new(place);
     heading.header(header)?;
     let mut session = heading.start::<W>();
-    let given = session.body(body, out)?;
-    Ok((session, given.written))
+    let (written, _) = session.body(body, out)?;
+    Ok((session, written))
 }
 
 // Seals: the ciphertext goes to the front of `out`.

@@ -30,13 +30,6 @@ pub struct Session<S: Suite, W: Way> {
     ghost split: { length held + 16 * ((total - 1) / 16) ≡ total },
 }
 
-// How many bytes a body call wrote, and how many are held back after it.
-#[derive(Debug, PartialEq, Eq, Clone, Copy)]
-pub struct Given {
-    pub written: usize,
-    pub held: usize,
-}
-
 // A sealing takes the message and gives out the ciphertext.
 pub type Sealing<S> = Session<S, Seal>;
 

@@ -12,10 +12,16 @@ fn is_sign(slash: bool, b: u8) -> bool
     b.is_ascii_uppercase() || b.is_ascii_digit() || (slash && b == b'/')
 }
 
+// Kept: a rule of the project asks for a loop over the elements here.
 pub(crate) fn are_signs(slash: bool, part: &[u8]) -> bool
     ensures { result ≡ signs slash part.now }
 {
-    part.iter().all(|b| is_sign(slash, *b))
+    for b in part {
+        if !is_sign(slash, *b) {
+            return false;
+        }
+    }
+    true
 }
 
 fn code_ok(kind: Kind, s: &[u8]) -> bool

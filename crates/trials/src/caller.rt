@@ -16,7 +16,7 @@ pub(crate) fn seal_once<S: Suite>(
     let mut heading = Heading::<S>::new(place);
     heading.header(header)?;
     let mut sealing = heading.seal();
-    let given = sealing.body(message, out)?;
+    let (given, _) = sealing.body(message, out)?;
     let rest = sealing.finish(last, tag)?;
-    Ok((given.written, rest))
+    Ok((given, rest))
 }

@@ -7,7 +7,6 @@ use session::keys::KeyPlace;
 use session::logs::Played;
 use session::play::play;
 use session::script::{Answer, Course, End, Stretch};
-use session::types::Given;
 use session::whole::seal;
 use std::alloc::{AllocError, Global};
 use std::process::Abort;
@@ -115,7 +114,7 @@ fn cuts_open_to_one_message(rt: HostRuntime) -> Result<(), Fail> {
 
 // The answer of a body call that wrote so many bytes and holds so many.
 fn given(written: usize, held: usize) -> Answer {
-    Answer::Body(Ok(Given { written, held }))
+    Answer::Body(Ok((written, held)))
 }
 
 // What body calls answer: a block is given only once a byte follows it.

@@ -50,7 +50,7 @@ returns-clause-call g c =
       body_bytes = bytes_append M P a.taken.body_bytes (bytes_from P (λ i j. search rules));
     } in
     rw (e, d) record {
-      answer = ap₂ (λ (i j : ℕ). Ok (record { written = i; held = j })) (omega arith) (omega arith);
+      answer = ap₂ (λ (i j : ℕ). Ok (i, j)) (omega arith) (omega arith);
       rest = rw g₁ ran.rest;
       at = rw g₁ record {
         taken = T;
