@@ -72,9 +72,6 @@ good_test_lem e g =
     (and_both _ _ (held_test_lem (λ n h. h) e.months g.months)
     (held_test_lem (λ s h. and_both _ _ h.0 h.1) e.drawing g.drawing)))))
 
-pub not_good : (e : Item) → good_test e ≡ false → Good e → ⊥
-not_good e t g = let h = good_test_lem e g in let z : true ≡ false = sym h ∙ t in let y : ◌≡◌ {A = ℕ} 0 1 = cc in omega arith
-
 -- how long the bytes of a good entry are
 held_length : {A : Type 0} {P : A → Type 0} (w : A → List ℕ) (k : ℕ) → ((a : A) → P a → length (w a) ≤ k) → (o : Option A) → Held P o → length (held w o) ≤ k
 held_length w k h None p = omega arith

@@ -1,12 +1,8 @@
 -- One byte more for a chained digest.
-use Rattle.std.proofs.Common.{◌≡◌, ℕ, ◌<◌, ◌≤◌, List, [], ◌∷◌, ◌++◌, length, take, replicate, ap, ◌∙◌, append_assoc, append-nil, arith, length-append, take_all}
+use Rattle.std.proofs.Common.{◌≡◌, ℕ, ◌≤◌, List, [], ◌∷◌, ◌++◌, length, take, replicate, append-nil, arith}
 use Rattle.poet.specs.Bytes.{◌⊕◌}
 use Rattle.suites.specs.Chained.{chained}
 use Rattle.suites.specs.Chains.{chained_next, chained_end}
-
--- a byte that still finds room among those held
-pub held_more : (h : List ℕ) (b : ℕ) (r : List ℕ) → length h < 16 → take 16 (h ++ b ∷ []) ++ r ≡ h ++ b ∷ r
-held_more h b r l = ap (λ z. z ++ r) (take_all 16 (h ++ b ∷ []) (omega (arith, length-append h (b ∷ [])))) ∙ append_assoc h (b ∷ []) r
 
 -- a byte behind a full block, which goes into a row
 pub row_more : (e c : List ℕ → List ℕ) (x y h x' y' v : List ℕ) (b : ℕ) (r : List ℕ) → length h ≡ 16 → v ≡ c x → x' ≡ v ⊕ h → y' ≡ e x'

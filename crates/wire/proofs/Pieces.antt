@@ -1,5 +1,5 @@
 -- One piece of a delivery: where its bytes end, and its length ahead of it.
-use Rattle.std.proofs.Common.{◌≡◌, ℕ, ◌+◌, ◌*◌, ◌/◌, ◌%◌, ◌<◌, ◌≤◌, List, [], ◌∷◌, ◌++◌, length, get_or, take, drop, Some, None, Option, sym, refl, ap, ap₂, ◌∙◌, arith, Bor, ◌≢◌, length-append, length-take-le, take-append-drop}
+use Rattle.std.proofs.Common.{◌≡◌, ℕ, ◌+◌, ◌*◌, ◌/◌, ◌%◌, ◌<◌, ◌≤◌, List, [], ◌∷◌, ◌++◌, length, get_or, take, drop, Some, None, Option, sym, refl, ap, ap₂, ◌∙◌, arith, Bor, length-take-le, take-append-drop}
 use Rattle.std.proofs.lemmas.List.{append_assoc, get_or_append_left, take_at, drop_at}
 use Rattle.wire.specs.Wire.{two, four, Taken}
 
@@ -16,9 +16,6 @@ separate n s t a b h k e = (
 -- the first n bytes and the rest, where there are as many
 pub chunk : (n : ℕ) (b rest i : List ℕ) → b ≡ take n i → rest ≡ drop n i → n ≤ length i → (length b ≡ n) × (b ++ rest ≡ i)
 chunk n b rest i be re h = (ap length be ∙ length-take-le n i h, ap₂ ◌++◌ be re ∙ take-append-drop n i)
-
-pub no_chunk : (n : ℕ) (i : List ℕ) → length i < n → (s rest : List ℕ) → length s ≡ n → s ++ rest ≢ i
-no_chunk n i h s rest l e = omega (arith, length-append s rest, ap length e)
 
 -- each number of the list is a byte
 abbrev pub Bytes : List ℕ → Type 0
@@ -84,11 +81,6 @@ ahead_separate {k} {most} {w} {value} c s t a b h i e =
     let l : length s ≡ length t = sym (c.back (length s) h) ∙ ap value m.0 ∙ c.back (length t) i in
     separate (length t) s t a b l refl m.1
 
--- no piece where there is no room for its length
-pub no_length : {k most : ℕ} {w : ℕ → List ℕ} {value : List ℕ → ℕ} → Coded k most w value → (input : List ℕ) → Taken (λ s. length s ≡ k) (λ s. s) input None → Taken (Short most) (ahead w) input None
-no_length {k} {most} {w} c input none s rest h e =
-    none (w (length s)) (s ++ rest) (c.long (length s)) (sym (append_assoc (w (length s)) s rest) ∙ e)
-
 bytes_front : (s rest : List ℕ) {input : List ℕ} → s ++ rest ≡ input → ((i : ℕ) → get_or input i 0 < 256) → Bytes s
 bytes_front s rest e h i l =
     let a : get_or (s ++ rest) i 0 ≡ get_or _ i 0 = ap (λ z. get_or z i 0) e in
@@ -106,8 +98,3 @@ told {k} {most} {w} {value} c b after input n None f v h t =
     λ s rest l e.
     let m = separate k (w (length s)) b (s ++ rest) after (c.long (length s)) f.0 (sym (append_assoc (w (length s)) s rest) ∙ e ∙ sym f.1) in
     t s rest (sym (c.back (length s) l) ∙ ap value m.0 ∙ v, l) m.1
-
--- a cut of a length within the limit
-pub within : (n most : ℕ) (input : List ℕ) (o : Option (Bor (List ℕ) × Bor (List ℕ))) → n ≤ most → Taken (λ s. length s ≡ n) (λ s. s) input o → Taken (λ s. (length s ≡ n) × Short most s) (λ s. s) input o
-within n most input (Some x) l t = ((t.0, omega (arith, t.0)), t.1)
-within n most input None l t = λ s rest h e. t s rest h.0 e

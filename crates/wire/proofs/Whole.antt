@@ -1,5 +1,5 @@
 -- A whole delivery: its parts one after the other, and that no two have the same bytes.
-use Rattle.std.proofs.Common.{◌≡◌, ℕ, ◌≤◌, List, [], ◌∷◌, ◌++◌, length, Some, None, Option, sym, refl, ap, ◌∙◌}
+use Rattle.std.proofs.Common.{◌≡◌, ℕ, ◌≤◌, List, [], ◌∷◌, ◌++◌, length, Some, None, Option, sym, refl, ◌∙◌}
 use Rattle.std.specs.Option.{ok_or}
 use Rattle.fault.specs.declared.kinds.ConsoleFault.{ConsoleFault}
 use Rattle.fault.specs.declared.kinds.Placed.{Placed}
@@ -39,11 +39,6 @@ unique p q l m e =
     let d = ciphertext_cut p {s = q.ciphertext} {r = q.tag} l (m.ciphertext_most, refl) c.1 in
     let s : p.suite ≡ q.suite = cc in
     λ i. record { suite = s i; key = b.0 i; header = c.0 i; ciphertext = d.0 i; tag = d.1 i }
-
--- the cuts one after the other give the bytes of the parts
-pub joined : (x : ℕ) (key header ciphertext tag : List ℕ) {r1 r2 r3 i : List ℕ} → i ≡ x ∷ r1 → key ++ r2 ≡ r1 → two_ahead header ++ r3 ≡ r2 → four_ahead ciphertext ++ tag ≡ r3 → x ∷ (key ++ (two_ahead header ++ (four_ahead ciphertext ++ tag))) ≡ i
-joined x key header ciphertext tag a b c d =
-    ap (λ z. x ∷ (key ++ (two_ahead header ++ z))) d ∙ ap (λ z. x ∷ (key ++ z)) c ∙ ap (λ z. x ∷ z) b ∙ sym a
 
 -- with the refusal's place, and that the delivery is the only one
 pub parsed : (input : List ℕ) (e : Placed ConsoleFault) (o : Option Delivery) → e ≡ malformed (length input) → Found input o → Parsed input (ok_or o e)

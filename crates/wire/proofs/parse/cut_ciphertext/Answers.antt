@@ -1,9 +1,6 @@
 use Rattle.std.proofs.Common.{arith}
-use Rattle.wire.proofs.Pieces.{chunk, no_chunk, no_length, told, four_coded}
+use Rattle.wire.proofs.Pieces.{chunk, told, four_coded}
 use Rattle.wire.proofs.parse.cut_ciphertext.Goals as goal
-
-pub returns-in_err-length : goal.returns-in_err-length
-returns-in_err-length c = rw c.from_residual.ensures (no_length four_coded c.args.input.now (no_chunk 4 c.args.input.now c.in_err-length.ensures.cases))
 
 pub returns : goal.returns
 returns c =

@@ -1,11 +1,7 @@
 use Rattle.std.proofs.Common.{[], ◌∷◌, ◌++◌, ◌∙◌, take, ap, rules}
 use Rattle.suites.specs.Chained.{chained}
-use Rattle.suites.proofs.Pushes.{held_more, row_more}
+use Rattle.suites.proofs.Pushes.{row_more}
 use Rattle.suites.proofs.chained.Chained.push.Goals as goal
-
-pub returns-in-None : goal.returns-in-None
-returns-in-None g c =
-    λ r. ap (chained _ _ c.args.self.now.x c.args.self.now.y) (ap (λ h. h ++ r) c.extend.ensures ∙ held_more c.args.self.now.held c.args.b r c.in-None.ensures)
 
 pub returns-in-Some : goal.returns-in-Some
 returns-in-Some g c =
