@@ -5,6 +5,7 @@ ghost use Rattle.std.specs.Prelude.{◌≡◌, ℕ, ◌≤◌, List, [], ◌∷�
 
 use std::marker::Model;
 
+// N bytes of memory, of which the first `len` were put in.
 #[derive(Drop)]
 pub struct Buffer<const N: usize> {
     bytes: [u8; N],
@@ -21,6 +22,7 @@ impl<const N: usize> Model for Buffer<N> {
 }
 
 impl<const N: usize> Buffer<N> {
+    // With nothing in it.
     pub fn new() -> Self
         ensures { result ≡ [] }
     {

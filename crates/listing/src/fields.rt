@@ -59,6 +59,7 @@ fn put_decimal(line: &mut Line, n: u32)
     if n >= 10 {
         put_decimal(line, n / 10);
     }
+    // Kept: a digit fits, and `try_from` would add a refusal that cannot come.
     line.extend(&[b'0' + (n % 10) as u8]);
 }
 

@@ -9,7 +9,6 @@ use report::report;
 use session::keys::KeyPlace;
 use session::play::play;
 use session::script::{Course, Stretch};
-use std::alloc::{AllocError, Global};
 use suite::Suite;
 use suites::listed::Listed;
 use suites::mirror::Mirror;
@@ -48,8 +47,18 @@ fn under<S: Suite>(rt: &HostRuntime, written: &Written) -> anyhow::Result<()> {
         return refuse(rt, refused);
     }
     let heap = rt.alloc();
-    let headers = header_stretches(heap, &written.headers)?;
-    let bodies = body_stretches(heap, pieces(&written.body))?;
+    let headers = written
+        .headers
+        .iter()
+        .map(|bytes| Stretch { bytes, room: 0 })
+        .collect::<Vec<Stretch<'_>>>(heap)?;
+    let bodies = pieces(&written.body)
+        .iter()
+        .map(|piece| Stretch {
+            bytes: &piece.bytes,
+            room: piece.room,
+        })
+        .collect::<Vec<Stretch<'_>>>(heap)?;
     let played = play::<S>(heap, &place, &headers, course(&written.body, &bodies))?;
     report(rt, played)
 }
@@ -60,40 +69,23 @@ fn refuse(rt: &HostRuntime, refused: Placed<KeyFault>) -> anyhow::Result<()> {
     Ok(())
 }
 
-fn pieces(body: &Body) -> &[Piece] {
+fn pieces(body: &Option<Body>) -> &[Piece] {
     match body {
-        Body::None => &[],
-        Body::Seal { pieces, .. } | Body::Open { pieces, .. } => pieces,
+        None => &[],
+        Some(Body::Seal { pieces, .. } | Body::Open { pieces, .. }) => pieces,
     }
 }
 
-fn course<'a>(body: &'a Body, bodies: &'a [Stretch<'a>]) -> Course<'a> {
+fn course<'a>(body: &'a Option<Body>, bodies: &'a [Stretch<'a>]) -> Course<'a> {
     match body {
-        Body::None => Course::Heading,
-        Body::Seal { finish, .. } => Course::Seal {
+        None => Course::Heading,
+        Some(Body::Seal { finish, .. }) => Course::Seal {
             bodies,
             finish: *finish,
         },
-        Body::Open { tag, .. } => Course::Open {
+        Some(Body::Open { tag, .. }) => Course::Open {
             bodies,
             tag: tag.as_deref(),
         },
     }
-}
-
-fn header_stretches(heap: Global, headers: &[Vec<u8>]) -> Result<Vec<Stretch<'_>>, AllocError> {
-    headers
-        .iter()
-        .map(|bytes| Stretch { bytes, room: 0 })
-        .collect(heap)
-}
-
-fn body_stretches(heap: Global, pieces: &[Piece]) -> Result<Vec<Stretch<'_>>, AllocError> {
-    pieces
-        .iter()
-        .map(|piece| Stretch {
-            bytes: &piece.bytes,
-            room: piece.room,
-        })
-        .collect(heap)
 }

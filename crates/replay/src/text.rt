@@ -33,10 +33,9 @@ pub struct Piece {
     pub room: usize,
 }
 
-// What follows the header calls.
+// What follows the header calls once the body has started.
 #[derive(Drop)]
 pub enum Body {
-    None,
     Seal {
         pieces: Vec<Piece>,
         finish: bool,
@@ -52,7 +51,7 @@ pub struct Written {
     pub suite: u8,
     pub key: Vec<u8>,
     pub headers: Vec<Vec<u8>>,
-    pub body: Body,
+    pub body: Option<Body>,
 }
 
 impl Written {
@@ -61,7 +60,7 @@ impl Written {
             suite: 0,
             key: Vec::new(heap),
             headers: Vec::new(heap),
-            body: Body::None,
+            body: None,
         }
     }
 
@@ -88,7 +87,7 @@ impl Written {
 
     // Whether no call was read yet.
     fn is_new(&self) -> bool {
-        self.headers.is_empty() && matches!(self.body, Body::None)
+        self.headers.is_empty() && self.body.is_none()
     }
 
     fn suite(&mut self, rest: &str) -> Result<(), Fault> {
@@ -112,7 +111,7 @@ impl Written {
 
     fn header(&mut self, heap: Global, rest: &str) -> Result<(), Fault> {
         let header = bytes(heap, rest)?;
-        if !matches!(self.body, Body::None) {
+        if self.body.is_some() {
             return Err(Fault::NoCall);
         }
         self.headers.push(header)?;
@@ -120,10 +119,10 @@ impl Written {
     }
 
     fn begin(&mut self, body: Body) -> Result<(), Fault> {
-        if !matches!(self.body, Body::None) {
+        if self.body.is_some() {
             return Err(Fault::NoCall);
         }
-        self.body = body;
+        self.body = Some(body);
         Ok(())
     }
 
@@ -134,14 +133,17 @@ impl Written {
         };
         let piece = Piece {
             bytes: bytes(heap, text)?,
+            // Kept: a `u32` has no `From` to a `usize`.
             room: room as usize,
         };
         match &mut self.body {
-            Body::Seal {
-                pieces,
-                finish: false,
-            } => pieces.push(piece)?,
-            Body::Open { pieces, tag: None } => pieces.push(piece)?,
+            Some(
+                Body::Seal {
+                    pieces,
+                    finish: false,
+                },
+            ) => pieces.push(piece)?,
+            Some(Body::Open { pieces, tag: None }) => pieces.push(piece)?,
             _ => return Err(Fault::NoCall),
         }
         Ok(())
@@ -150,8 +152,8 @@ impl Written {
     fn finish(&mut self, heap: Global, rest: &str) -> Result<(), Fault> {
         let bytes = bytes(heap, rest)?;
         match &mut self.body {
-            Body::Seal { finish, .. } if !*finish && bytes.is_empty() => *finish = true,
-            Body::Open { tag, .. } if tag.is_none() => *tag = Some(bytes),
+            Some(Body::Seal { finish, .. }) if !*finish && bytes.is_empty() => *finish = true,
+            Some(Body::Open { tag, .. }) if tag.is_none() => *tag = Some(bytes),
             _ => return Err(Fault::NoCall),
         }
         Ok(())

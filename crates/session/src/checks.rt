@@ -43,13 +43,8 @@ pub(crate) fn checked(header: &[u8], body: &[u8], room: usize) -> Result<(), Pla
 pub(crate) fn tag_bytes(tag: &[u8], place: usize) -> Result<[u8; 16], Placed<SessionFault>>
     ensures { result ≡ answered (tag_check (length tag.now) place) tag.now }
 {
-    if tag.len() != 16 {
-        return Err(Placed {
-            fault: SessionFault::Tag,
-            place,
-        });
-    }
-    let mut bytes = [0; 16];
-    bytes.copy_from_slice(tag);
-    Ok(bytes)
+    <[u8; 16]>::try_from(tag).map_err(|_| Placed {
+        fault: SessionFault::Tag,
+        place,
+    })
 }

@@ -130,6 +130,7 @@ impl<S: Suite> Engine<S> {
         requires { len ≤ 1048576 }
         ensures { (key H : List ℕ) → EngineAt S.Permutation.Permutation S.ChainingHash.ChainingHash (S.Suite.under key) H self.now → result ≡ size (S.Suite.under key) len }
     {
+        // Kept: there is no `From` of a `usize`.
         self.permutation.encrypt(S::encode(8 * len as u64))
     }
 

@@ -9,6 +9,7 @@ use fault::kinds::{Placed, SessionFault};
 use suite::Suite;
 
 // Seals `message` under `key` and `header`: the ciphertext goes to the front of `out`, and the tag to `tag`. Answers the bytes written to `out`.
+// Kept with a parameter for each buffer: every one has a refusal of its own, and a struct of them would be made for the call alone.
 pub fn seal<S: Suite>(
     key: &[u8],
     header: &[u8],

@@ -6,8 +6,8 @@ ghost use Rattle.sheet.specs.Entries.{item_map, item_of};
 use crate::entry::{Entry, Kind};
 use crate::table::{Need, row_at};
 
-// Whether bit k of the map stands.
-fn stands(map: u16, k: u32) -> bool
+// Whether bit k of the map stands. Kept by number, as ten of the sixteen bits are of no kind.
+fn stands(map: u16, k: usize) -> bool
     requires { k < 16 }
     ensures { result ≡ Stands map k }
 {
@@ -21,18 +21,18 @@ pub(crate) fn has(map: u16, kind: Kind) -> bool
     stands(map, kind.bit())
 }
 
-fn known_at(map: u16, k: u32) -> bool
+fn known_at(map: u16, k: usize) -> bool
     requires { k < 16 }
     ensures { result ≡ known_at map k }
 {
-    !(stands(map, k) && row_at(k as usize).need == Need::Unknown)
+    !(stands(map, k) && row_at(k).need == Need::Unknown)
 }
 
-fn complete_at(map: u16, k: u32) -> bool
+fn complete_at(map: u16, k: usize) -> bool
     requires { k < 16 }
     ensures { result ≡ complete_at map k }
 {
-    stands(map, k) || row_at(k as usize).need != Need::Required
+    stands(map, k) || row_at(k).need != Need::Required
 }
 
 // No bit stands that may not.

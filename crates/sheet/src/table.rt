@@ -94,10 +94,10 @@ pub(crate) fn row_at(k: usize) -> Row
 
 impl Kind {
     // The number of its bit.
-    pub(crate) fn bit(self) -> u32
+    pub(crate) fn bit(self) -> usize
         ensures { result ≡ bit_of self }
     {
-        self as u32
+        self as usize
     }
 
     // Its row of the table.
@@ -105,7 +105,7 @@ impl Kind {
     pub(crate) fn row(self) -> Row
         ensures { result ≡ row_of (bit_of self) }
     {
-        ROWS[self as usize]
+        row_at(self.bit())
     }
 
     // Whether z lies between the ends of its row.

@@ -30,6 +30,7 @@ fn encode(e: Entry<&[u8]>) -> Buffer<56>
         out.extend(&months.to_be_bytes());
     }
     if let Some(drawing) = e.drawing {
+        // Kept: a drawing of good form has at most 32 bytes, and `try_from` would add a refusal that cannot come.
         out.extend(&[drawing.len() as u8]);
         out.extend(drawing);
     }
@@ -37,6 +38,7 @@ fn encode(e: Entry<&[u8]>) -> Buffer<56>
 }
 
 // Puts bytes at a place of the buffer, if there is room, and answers the place behind them.
+// Kept a buffer and a place, here and in `write`: a rule of the project gives the calls this form.
 pub fn put(s: &[u8], buf: &mut [u8], at: usize) -> Result<usize, Placed<SheetFault>>
     ensures { Put buf.old buf.new at s.now result }
 {

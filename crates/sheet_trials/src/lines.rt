@@ -1,6 +1,5 @@
 // Lines of entries: the shortest, the longest and some between, what they refuse, and the yearly need.
-use crate::samples::{LONGEST, SHORTEST, kept, refused};
-use fault::kinds::SheetFault;
+use crate::samples::{LONGEST, SHORTEST, kept, lacks_room, refuses};
 use listing::line::line;
 use listing::need::yearly_need;
 use sheet::entry::Entry;
@@ -26,52 +25,7 @@ fn shows(
     let mut buf = [0xee; 75];
     assert_eq!(rt; line(e, &mut buf, 3), Ok(end), "{case}");
     kept(rt, &buf, 3, end, case);
-    lacks_room(rt, heap, e, end, case)
-}
-
-// An entry whose line ends at this place is refused for its room, one byte short and past the buffer.
-fn lacks_room(
-    rt: &impl Abort,
-    heap: Global,
-    e: Entry<&[u8]>,
-    end: usize,
-    case: &impl Display,
-) -> Result<(), Fail> {
-    assert!(rt; 3 < end, "{case}");
-    let mut buf = vec![in heap; 0xee; end - 1]?;
-    assert_eq!(rt;
-        line(e, &mut buf, 3),
-        refused(SheetFault::Room, 3),
-        "{case}"
-    );
-    assert_eq!(rt;
-        line(e, &mut buf, end),
-        refused(SheetFault::Room, end),
-        "{case}"
-    );
-    kept(rt, &buf, 0, 0, case);
-    Ok(())
-}
-
-// An entry is refused for its values, where its line has no room too.
-fn refuses(rt: &impl Abort, e: Entry<&[u8]>, case: &impl Display) {
-    let mut buf = [0xee; 75];
-    assert_eq!(rt;
-        line(e, &mut buf, 3),
-        refused(SheetFault::Value, 3),
-        "{case}"
-    );
-    assert_eq!(rt;
-        line(e, &mut buf, 75),
-        refused(SheetFault::Value, 75),
-        "{case}"
-    );
-    assert_eq!(rt;
-        line(e, &mut buf, 76),
-        refused(SheetFault::Value, 76),
-        "{case}"
-    );
-    kept(rt, &buf, 0, 0, case);
+    lacks_room(rt, heap, line, e, end, case)
 }
 
 #[test]
@@ -124,31 +78,23 @@ fn lines(rt: HostRuntime) -> Result<(), Fail> {
 }
 
 #[test]
-fn values_before_room(rt: HostRuntime) {
-    refuses(
-        &rt,
-        Entry {
-            count: 10000,
-            ..LONGEST
-        },
-        &"count",
-    );
-    refuses(
-        &rt,
-        Entry {
-            months: Some(0),
-            ..LONGEST
-        },
-        &"months",
-    );
-    refuses(
-        &rt,
-        Entry {
-            drawing: Some(b""),
-            ..LONGEST
-        },
-        &"drawing",
-    );
+fn values_before_room(rt: HostRuntime) -> Result<(), Fail> {
+    let heap = rt.alloc();
+    let e = Entry {
+        count: 10000,
+        ..LONGEST
+    };
+    refuses(&rt, heap, line, e, 75, &"count")?;
+    let e = Entry {
+        months: Some(0),
+        ..LONGEST
+    };
+    refuses(&rt, heap, line, e, 75, &"months")?;
+    let e: Entry<&[u8]> = Entry {
+        drawing: Some(b""),
+        ..LONGEST
+    };
+    refuses(&rt, heap, line, e, 75, &"drawing")
 }
 
 #[test]

@@ -251,26 +251,18 @@ const BROKEN: [(&'static [u8], u8, SheetFault, usize); 6] = [
 #[test]
 fn refused_sheets(rt: HostRuntime) -> Result<(), Fail> {
     for (i, (sheet, number, fault, place)) in BROKEN.into_iter().enumerate() {
-        refuses_sealed(
-            &rt,
-            rt.alloc(),
-            1,
-            sheet,
-            number,
-            fault,
-            place,
-            &format_args!("case {i}"),
-        )?;
-        refuses_sealed(
-            &rt,
-            rt.alloc(),
-            4,
-            sheet,
-            number,
-            fault,
-            place,
-            &format_args!("case {i}"),
-        )?;
+        for suite in [1, 4] {
+            refuses_sealed(
+                &rt,
+                rt.alloc(),
+                suite,
+                sheet,
+                number,
+                fault,
+                place,
+                &format_args!("case {i}"),
+            )?;
+        }
     }
     Ok(())
 }

@@ -1,8 +1,10 @@
 // What the tests share: two entries, what a refusal is, and whether a buffer is as it was filled.
 use fault::kinds::{Placed, SheetFault};
 use sheet::entry::Entry;
+use std::alloc::Global;
 use std::fmt::Display;
 use std::process::Abort;
+use std::test::Fail;
 
 pub(crate) const SHORTEST: Entry<&'static [u8]> = Entry {
     code: b"DOORSH01",
@@ -33,4 +35,53 @@ pub(crate) fn kept(rt: &impl Abort, buf: &[u8], from: usize, to: usize, case: &i
             assert_eq!(rt; *b, 0xee, "altered outside the part: {case}");
         }
     }
+}
+
+// A call that puts an entry, or its line, at a place refuses it for its values, where it has no room too.
+pub(crate) fn refuses<F: Fn(Entry<&[u8]>, &mut [u8], usize) -> Result<usize, Placed<SheetFault>>>(
+    rt: &impl Abort,
+    heap: Global,
+    put: F,
+    e: Entry<&[u8]>,
+    size: usize,
+    case: &impl Display,
+) -> Result<(), Fail>
+    requires { F.IsAlwaysCallable put }
+{
+    let mut buf = vec![in heap; 0xee; size]?;
+    for place in [3, size, size.saturating_add(1)] {
+        assert_eq!(rt;
+            put(e, &mut buf, place),
+            refused(SheetFault::Value, place),
+            "{case}"
+        );
+    }
+    kept(rt, &buf, 0, 0, case);
+    Ok(())
+}
+
+// One whose bytes end at this place is refused for its room, one byte short and past the buffer.
+pub(crate) fn lacks_room<
+    F: Fn(Entry<&[u8]>, &mut [u8], usize) -> Result<usize, Placed<SheetFault>>,
+>(
+    rt: &impl Abort,
+    heap: Global,
+    put: F,
+    e: Entry<&[u8]>,
+    end: usize,
+    case: &impl Display,
+) -> Result<(), Fail>
+    requires { F.IsAlwaysCallable put }
+{
+    assert!(rt; 3 < end, "{case}");
+    let mut buf = vec![in heap; 0xee; end - 1]?;
+    for place in [3, end] {
+        assert_eq!(rt;
+            put(e, &mut buf, place),
+            refused(SheetFault::Room, place),
+            "{case}"
+        );
+    }
+    kept(rt, &buf, 0, 0, case);
+    Ok(())
 }

@@ -1,6 +1,5 @@
 // Writing of entries: their bytes, how many fields they have, each bound of a value and one past it, and what a buffer then holds.
-use crate::samples::{LONGEST, SHORTEST, kept, refused};
-use fault::kinds::SheetFault;
+use crate::samples::{LONGEST, SHORTEST, kept, lacks_room, refuses};
 use sheet::entry::Entry;
 use sheet::reader::Reader;
 use sheet::whole::test;
@@ -9,51 +8,6 @@ use std::alloc::Global;
 use std::fmt::Display;
 use std::process::Abort;
 use std::test::Fail;
-
-// An entry is refused for its values, where it has no room too.
-fn refuses(rt: &impl Abort, e: Entry<&[u8]>, case: &impl Display) {
-    let mut buf = [0xee; 64];
-    assert_eq!(rt;
-        write(e, &mut buf, 3),
-        refused(SheetFault::Value, 3),
-        "{case}"
-    );
-    assert_eq!(rt;
-        write(e, &mut buf, 64),
-        refused(SheetFault::Value, 64),
-        "{case}"
-    );
-    assert_eq!(rt;
-        write(e, &mut buf, 65),
-        refused(SheetFault::Value, 65),
-        "{case}"
-    );
-    kept(rt, &buf, 0, 0, case);
-}
-
-// An entry that ends at this place is refused for its room, one byte short and past the buffer.
-fn lacks_room(
-    rt: &impl Abort,
-    heap: Global,
-    e: Entry<&[u8]>,
-    end: usize,
-    case: &impl Display,
-) -> Result<(), Fail> {
-    assert!(rt; 3 < end, "{case}");
-    let mut buf = vec![in heap; 0xee; end - 1]?;
-    assert_eq!(rt;
-        write(e, &mut buf, 3),
-        refused(SheetFault::Room, 3),
-        "{case}"
-    );
-    assert_eq!(rt;
-        write(e, &mut buf, end),
-        refused(SheetFault::Room, end),
-        "{case}"
-    );
-    kept(rt, &buf, 0, 0, case);
-    Ok(())
-}
 
 // An entry is written at place 3, alters nothing else, and is read back.
 fn accepts(
@@ -71,7 +25,7 @@ fn accepts(
     assert!(rt; read == e, "read otherwise: {case}");
     let mut exact = vec![in heap; 0; end]?;
     assert_eq!(rt; write(e, &mut exact, 3), Ok(end), "exact room: {case}");
-    lacks_room(rt, heap, e, end, case)
+    lacks_room(rt, heap, write, e, end, case)
 }
 
 fn tried(
@@ -84,7 +38,7 @@ fn tried(
     if good {
         accepts(rt, heap, e, case)
     } else {
-        refuses(rt, e, case);
+        refuses(rt, heap, write, e, 64, case)?;
         Ok(())
     }
 }

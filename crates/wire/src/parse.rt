@@ -56,6 +56,7 @@ fn cut_ciphertext(input: &[u8]) -> Option<(&[u8], &[u8])>
     ensures { Taken (λ s. length s ≤ 16384) four_ahead input.now result }
 {
     let (length, rest) = input.split_first_chunk::<4>()?;
+    // Kept: a `u32` has no `From` to a `usize`.
     cut_within(rest, u32::from_be_bytes(*length) as usize, CIPHERTEXT_MOST)
 }
 
