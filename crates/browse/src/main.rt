@@ -35,6 +35,7 @@ fn main(rt: HostRuntime) -> anyhow::Result<()> {
     }
 }
 
+// Kept a function: `Ask` is another crate's, so it takes no `TryFrom` here.
 fn ask_of(word: &str) -> Option<Ask> {
     match word {
         "next" => Some(Ask::Next),

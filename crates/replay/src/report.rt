@@ -19,6 +19,7 @@ pub(crate) fn report(rt: &HostRuntime, played: (Played, End)) -> anyhow::Result<
     Ok(())
 }
 
+// Kept a function: `Answer` is another crate's, and the words are this program's.
 fn line(rt: &HostRuntime, answer: &Answer) -> anyhow::Result<()> {
     match answer {
         Answer::Header(Ok(())) => println!(rt; "header: taken")?,

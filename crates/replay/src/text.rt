@@ -173,6 +173,7 @@ fn bytes(heap: Global, text: &str) -> Result<Vec<u8>, Fault> {
     Ok(all)
 }
 
+// Kept: the library's `to_digit` answers a `u32`, which would have to be cast.
 fn digit(c: u8) -> Result<u8, Fault> {
     match c {
         b'0'..=b'9' => Ok(c - b'0'),

@@ -1,6 +1,5 @@
 -- The line of one entry, and the lines of a sheet.
-use Rattle.std.proofs.Common.{◌≡◌, ℕ, List, [], ◌∷◌, ◌++◌, length, take, drop, Some, Ok, Err, Option, Result, sym, ap, ◌∙◌, subst, ⊎_elim, append_assoc, zero-add, arith}
-use Rattle.std.proofs.lemmas.List.{take_at}
+use Rattle.std.proofs.Common.{◌≡◌, ℕ, List, [], ◌∷◌, ◌++◌, length, drop, Some, Ok, Err, Option, Result, sym, ap, ◌∙◌, subst, ⊎_elim, append_assoc, arith}
 use Rattle.fault.specs.declared.kinds.SheetFault.{SheetFault}
 use Rattle.fault.specs.declared.kinds.Placed.{Placed}
 use Rattle.sheet.specs.declared.reader.Reader.{Reader}
@@ -13,17 +12,9 @@ use Rattle.report.specs.Lists.{list_of}
 pub row_fits : LineLaw → (e : Item) (old new : List ℕ) (f : Placed SheetFault) → length old ≡ 70 → Lined old new 0 e (Err f) → Good e → ⊥
 row_fits law e old new f l s g = ⊎_elim (λ v. v.1 g) (λ r. omega (arith, r.2, (law e g).0)) s.2
 
--- and stands in its first n bytes; k is how the code counts them
-pub row_is : (e : Item) (old new : List ℕ) (n k : ℕ) → k ≡ n → Lined old new 0 e (Ok n) → take k new ≡ line_of e
-row_is e old new n k ke s =
-    ap (λ (x : List ℕ). take k x) s.3 ∙ take_at (line_of e) (drop n old) k (sym (ke ∙ s.1 ∙ zero-add (length (line_of e))))
-
 -- The lines so far of a sheet with the entries es, and the entries that are left to the reader.
 abbrev pub Sofar : (r : Reader) (text : List ℕ) (es : List Item) → Type 0
 Sofar r text es = (rest : List Item) × AllGood rest × (drop r.place r.sheet.now ≡ sheet_of rest) × (text ++ list_of rest ≡ list_of es)
-
-pub none_yet : (r : Reader) (s text : List ℕ) (es : List Item) → r.sheet.now ≡ s → r.place ≡ 0 → text ≡ [] → AllGood es → s ≡ sheet_of es → Sofar r text es
-none_yet r s text es se pe te g e = (es, g, ap (λ n. drop n r.sheet.now) pe ∙ se ∙ e, ap (λ (x : List ℕ). x ++ list_of es) te)
 
 pub one_more : (r r' : Reader) (o : Result (Option Lent) (Placed SheetFault)) (e : Lent) (t t' : List ℕ) (es : List Item) → o ≡ Ok (Some e) → ((es : List Item) → AllGood es → drop r.place r.sheet.now ≡ sheet_of es → Follows r.sheet.now r'.place es o) → r'.sheet.now ≡ r.sheet.now → (Good (item_of e) → t' ≡ t ++ line_of (item_of e)) → Sofar r t es → Sofar r' t' es
 one_more r r' o e t t' es oe follows same added (rest, g, left, so) = go rest g so (subst (λ (x : Result (Option Lent) (Placed SheetFault)). Follows r.sheet.now r'.place rest x) oe (follows rest g left))

@@ -3,8 +3,8 @@ use Rattle.std.proofs.Common.{◌≡◌, ℕ, ◌≤◌, true, eqb, List, ◌++�
 use Rattle.fault.specs.declared.kinds.SessionFault.{SessionFault}
 use Rattle.fault.specs.declared.kinds.Placed.{Placed}
 use Rattle.poet.specs.Functions.{Functions}
-use Rattle.session.specs.Calls.{answered, body_checks, checks, key_check, tag_check, FillBy, Sealed, SealingBy, SealCall, Refused, OpeningBy, OpenCall}
-use Rattle.session.specs.Straight.{SealRun, OpenRun}
+use Rattle.session.specs.Calls.{answered, body_checks, checks, key_check, tag_check, FillBy, Refused, OpeningBy, OpenCall}
+use Rattle.session.specs.Straight.{OpenRun}
 use Rattle.session.specs.Sessions.{writes}
 use Rattle.session.proofs.Bytewise.{zeroed}
 use Rattle.session.proofs.Straights.{past_front}
@@ -27,10 +27,6 @@ module _ (under : List ℕ → Functions) (key z b H M o : List ℕ) (filled : F
   checks_are : (more : Option (Placed SessionFault)) → checks (length key) (length H) (length M) (length o) more ≡ more
   checks_are more = rw sixteen (passes (length H) (length M) (length o) more pass)
 
-  pub sealing_stands : (t o' t' : List ℕ) → SealRun (under b) H M o o' t' (Ok tt) → SealCall under key H M o t o' t' (Ok (length M))
-  sealing_stands t o' t' s =
-      subst (λ (c : Option (Placed SessionFault)). SealingBy c (under key) H M o t o' t' (Ok (length M))) (sym (checks_are None)) (refl, subst (λ (i : List ℕ). Sealed (under i) H M o o' t') key_none.1 s)
-
   -- opening M, which is a ciphertext here; T is the tag given, and T' what its check answered
   module _ (T T' : List ℕ) (tok : Ok T' ≡ answered (tag_check (length T) 0) T) where
     tag_none : (tag_check (length T) 0 ≡ None) × (T' ≡ T)
@@ -42,9 +38,6 @@ module _ (under : List ℕ → Functions) (key z b H M o : List ℕ) (filled : F
     -- under the key and the tag that were given
     run_given : (o' : List ℕ) (r : Result (Unit {0}) (Placed SessionFault)) → OpenRun (under b) H M T' o o' r → OpenRun (under key) H M T o o' r
     run_given o' r s = subst (λ (i : List ℕ). OpenRun (under key) H M i o o' r) tag_none.1 (subst (λ (i : List ℕ). OpenRun (under i) H M T' o o' r) key_none.1 s)
-
-    pub accepting_stands : (o' : List ℕ) → OpenRun (under b) H M T' o o' (Ok tt) → OpenCall under key H M T o o' (Ok (length M))
-    accepting_stands o' s = subst (λ (c : Option (Placed SessionFault)). OpeningBy c (under key) H M T o o' (Ok (length M))) (sym none) (refl, run_given o' (Ok tt) s)
 
     -- w stands in front after it was filled with zeros
     pub refusing_stands : (o₁ w : List ℕ) (e : Placed SessionFault) → length o₁ ≡ length o → OpenRun (under b) H M T' o o₁ (Err e) → w ≡ replicate (length (take (length M) o₁)) 0 → OpenCall under key H M T o (w ++ drop (length M) o₁) (Err e)

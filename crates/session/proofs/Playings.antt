@@ -1,5 +1,5 @@
 -- Calls of a written session, one after another.
-use Rattle.std.proofs.Common.{◌≡◌, ℕ, ◌+◌, ◌<◌, List, [], ◌∷◌, ◌++◌, length, get_or, take, vec_items, sym, refl, ap, ◌∙◌, append_assoc, append-nil}
+use Rattle.std.proofs.Common.{◌≡◌, ℕ, ◌+◌, ◌<◌, List, [], ◌∷◌, ◌++◌, length, get_or, take, vec_items, sym, refl, ap, ◌∙◌, append_assoc}
 use Rattle.std.proofs.lemmas.List.{take_more}
 use Rattle.suite.specs.declared.Suite as suite
 use Rattle.suite.specs.declared.Permutation as permutation
@@ -33,9 +33,6 @@ body_answers_append M [] ts = refl
 body_answers_append M (s ∷ ss) ts = ap (λ bs. body_answer (length M) s ∷ bs) (body_answers_append (taken (body_check_of (length M) s) M s.bytes.now) ss ts)
 
 module _ {A B C D : Type 0} {u : suite.Ghosts A B C D} {x : permutation.Ghosts B} {y : hash.Ghosts C} {z : digest.Ghosts D} where
-  pub headers_none : (p : Played) (s : Heading A B C D u x y z) → HeaderPlayed [] p p s s
-  headers_none p s = record { at = λ key a. a; header = λ key a. refl; answers = λ key a. sym (append-nil (vec_items p.answers)) }
-
   pub headers_more : (ts : List Stretch) (i : ℕ) (d : Stretch) (p p' p'' : Played) (s s' s'' : Heading A B C D u x y z) → i < length ts → HeaderPlayed (take i ts) p p' s s' → HeaderPlayed (get_or ts i d ∷ []) p' p'' s' s''
       → HeaderPlayed (take (i + 1) ts) p p'' s s''
   headers_more ts i d p p' p'' s s' s'' l a b =
@@ -51,9 +48,6 @@ module _ {A B C D : Type 0} {u : suite.Ghosts A B C D} {x : permutation.Ghosts B
       }
 
 module _ {A W B C D : Type 0} {u : suite.Ghosts A B C D} {x : permutation.Ghosts B} {y : hash.Ghosts C} {z : digest.Ghosts D} {w : way.Ghosts W} where
-  pub bodies_none : (p : Played) (s : Session A W B C D u x y z w) → BodyPlayed [] p p s s
-  bodies_none p s = record { at = λ key a. a; header = refl; body = λ key a. refl; answers = λ key a. sym (append-nil (vec_items p.answers)) }
-
   pub bodies_more : (ts : List Stretch) (i : ℕ) (d : Stretch) (p p' p'' : Played) (s s' s'' : Session A W B C D u x y z w) → i < length ts → BodyPlayed (take i ts) p p' s s' → BodyPlayed (get_or ts i d ∷ []) p' p'' s' s''
       → BodyPlayed (take (i + 1) ts) p p'' s s''
   bodies_more ts i d p p' p'' s s' s'' l a b =

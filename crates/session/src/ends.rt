@@ -15,7 +15,7 @@ use suite::Suite;
 
 impl<S: Suite> Sealing<S> {
     // Ends the sealing: the last bytes of the ciphertext go to `last`, with zeros behind them, and the tag to `tag`. Answers how many bytes
-    // they are.
+    // they are. Kept a place of sixteen bytes with a count, here and in an opening: a rule of the project gives the call this form.
     pub fn finish(
         self,
         last: &mut [u8; 16],
@@ -44,7 +44,8 @@ impl<S: Suite> Sealing<S> {
 }
 
 impl<S: Suite> Opening<S> {
-    // The last row under a tag: the block that it gives, if the opening passes its tests. Both tests are made, and each to the end.
+    // The last row under a tag: the block that it gives, if the opening passes its tests. Both tests are made, and each to the end. Kept beside
+    // the steps of a sealing's finish: it completes the block with other bytes, and its lanes lie the other way round.
     fn verdict(&self, tag: &[u8; 16]) -> Option<[u8; 16]>
         ensures { (R : Run) → SessionAt R self.now → Tested (S.Suite.under R.key) R.header R.body tag.now (rows_of opening (S.Suite.under R.key) R).out result }
     {

@@ -1,5 +1,5 @@
 -- The tests of the forms, and what is put together when an entry is written.
-use Rattle.std.proofs.Common.{◌≡◌, ℕ, ◌+◌, ◌<◌, ◌≤◌, Bool, true, false, ◌&&◌, eqb, List, [], ◌++◌, length, take, drop, pos, Some, None, Ok, Err, Option, Result, sym, refl, ap, ◌∙◌, subst, inr, ⊎_elim, append_assoc, append-nil, arith, length-append, length-take-le, w32, SFits, Bor, eq-eqb, true-eqb}
+use Rattle.std.proofs.Common.{◌≡◌, ℕ, ◌+◌, ◌<◌, ◌≤◌, Bool, true, false, ◌&&◌, eqb, List, [], ◌++◌, length, take, drop, pos, Some, None, Ok, Err, Option, Result, sym, refl, ap, ◌∙◌, subst, inr, ⊎_elim, append_assoc, append-nil, arith, length-append, length-take-le, w32, SFits, Bor, true-eqb}
 use Rattle.std.proofs.str.Laws.{order}
 use Rattle.std.proofs.lemmas.List.{take-append-le, take_all}
 use Rattle.std.specs.Option.{option_map}
@@ -30,23 +30,13 @@ pub and_right : (a b : Bool) → (a && b) ≡ true → b ≡ true
 and_right true b e = e
 and_right false b e = let z : ◌≡◌ {A = ℕ} 0 1 = cc in absurd (omega arith)
 
-pub and_both : (a b : Bool) → a ≡ true → b ≡ true → (a && b) ≡ true
-and_both a b p q = ap (λ t. t && b) p ∙ q
-
 -- the test and the form rules
 code_form : (k : ℕ) (s : List ℕ) → code_test k s ≡ true → CodeForm k s
 code_form k s t = let w = (row_of k).width in (true-eqb (length s) w (sym (and_left (eqb (length s) w) (signs false s) t)), and_right (eqb (length s) w) (signs false s) t)
 
-code_test_lem : (k : ℕ) (s : List ℕ) → CodeForm k s → code_test k s ≡ true
-code_test_lem k s f = and_both _ _ (eq-eqb (length s) (row_of k).width f.0) f.1
-
 held_form : {X : Type 0} {t : X → Bool} {P : X → Type 0} → ((a : X) → t a ≡ true → P a) → (o : Option X) → held_test t o ≡ true → Held P o
 held_form f None e = tt
 held_form f (Some a) e = f a e
-
-held_test_lem : {X : Type 0} {t : X → Bool} {P : X → Type 0} → ((a : X) → P a → t a ≡ true) → (o : Option X) → Held P o → held_test t o ≡ true
-held_test_lem f None e = refl
-held_test_lem f (Some a) e = f a e
 
 pub good_form : (e : Item) → good_test e ≡ true → Good e
 good_form e t =
@@ -62,15 +52,6 @@ good_form e t =
       months = held_form (λ n h. h) e.months (and_left (held_test (λ n. in_row 4 (pos n)) e.months) _ t4);
       drawing = held_form (λ s h. (and_left (in_row 5 (pos (length s))) (signs true s) h, and_right (in_row 5 (pos (length s))) (signs true s) h)) e.drawing (and_right (held_test (λ n. in_row 4 (pos n)) e.months) _ t4);
     }
-
-pub good_test_lem : (e : Item) → Good e → good_test e ≡ true
-good_test_lem e g =
-    and_both _ _ (code_test_lem 0 e.code g.code)
-    (and_both _ _ (held_test_lem (code_test_lem 1) e.parent g.parent)
-    (and_both _ _ g.count
-    (and_both _ _ (held_test_lem (λ z h. h) e.landing g.landing)
-    (and_both _ _ (held_test_lem (λ n h. h) e.months g.months)
-    (held_test_lem (λ s h. and_both _ _ h.0 h.1) e.drawing g.drawing)))))
 
 -- how long the bytes of a good entry are
 held_length : {A : Type 0} {P : A → Type 0} (w : A → List ℕ) (k : ℕ) → ((a : A) → P a → length (w a) ≤ k) → (o : Option A) → Held P o → length (held w o) ≤ k

@@ -1,9 +1,6 @@
 use Rattle.std.proofs.Common.{arith}
-use Rattle.session.proofs.Judging.{accepting_stands, refusing_stands}
+use Rattle.session.proofs.Judging.{refusing_stands}
 use Rattle.session.proofs.whole.open.Goals as goal
-
-pub returns : goal.returns
-returns g c = accepting_stands g.S.Suite.under _ _ _ _ _ _ c.in_ok-fill.ensures c.in_ok-checked.ensures _ _ c.in_ok-tag.ensures _ c.in_default.ensures
 
 pub returns-in-Err : goal.returns-in-Err
 returns-in-Err g c =
