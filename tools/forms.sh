@@ -17,7 +17,7 @@ point '1 enums, flags and numbers' '\bbool\b|match (suite|written\.suite)\b|\bk:
 point '2 functions and types, to be read for twins' '^ *(pub(\(crate\))? )?(fn|struct|enum|trait) |^impl'
 point '3 loops that count' 'for [a-z_]+ in [^&]*\.\.|while |loop \{|saturating_add\(1\)'
 point '4 conversion, equality and printing' '\bas (u8|u16|u32|u64|i32|usize)\b|^impl.* (From|TryFrom|Display|PartialEq)|fn (is_unknown|is_required|name|same|widened)\b'
-point '5 facts and parameters that travel' '(HeadingAt|CoreAt) S\.|take self\.(new|old)\.len|p: &P,$|suite: u8,$'
+point '5 facts and parameters that travel' '(HeadingAt|CoreAt|EngineAt) S\.|take self\.(new|old)\.len|p: &P,$|suite: u8,$'
 point '6 lengths and places beside buffers' '\b(len|at): usize|: \[u8; 16\],$|\[0(u8)?; [0-9]+\]'
 point '7 switches on a step' 'match (suite|written\.suite|on|finish)\b|if !(on|finish)\b|\bdyn\b|: fn\('
 echo "8 answer files, proof files and their lines: $(git ls-tree -r --name-only "$commit" crates | grep -c 'proofs/.*Answers.antt') $(git ls-tree -r --name-only "$commit" crates | grep -c 'proofs/.*antt') $(git ls-tree -r --name-only "$commit" crates | grep 'proofs/.*antt' | sed "s/^/$commit:/" | xargs -n1 git show | wc -l)"
