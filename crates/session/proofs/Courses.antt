@@ -1,5 +1,6 @@
 -- A written session, from its body calls and its finish to the promise.
 use Rattle.std.proofs.Common.{◌≡◌, ℕ, ◌-◌, Bool, true, false, List, [], ◌∷◌, ◌++◌, length, take, drop, replicate, IfOk, Some, None, Ok, Err, vec_items, Option, Result, sym, refl, ap, ◌∙◌, subst, ap₂, Bor, append-nil}
+use Rattle.std.proofs.lemmas.List.{drop_at}
 use Rattle.std.proofs.lemmas.Result.{IfOk-weaker}
 use Rattle.std.specs.declared.alloc.AllocError.{AllocError}
 use Rattle.fault.specs.declared.kinds.SessionFault.{SessionFault}
@@ -22,13 +23,13 @@ use Rattle.session.specs.declared.types.Heading.{Heading}
 use Rattle.session.specs.Directions.{Direction, sealing, opening}
 use Rattle.session.specs.Runs.{Run, fresh, finished}
 use Rattle.session.specs.Promise.{Blocks}
-use Rattle.session.specs.Sessions.{HeadingAt, SessionAt, held, empty_check, end_check, SealedBy, OpenedBy}
+use Rattle.session.specs.Sessions.{HeadingAt, SessionAt, held, writes, empty_check, end_check, SealedBy, OpenedBy}
 use Rattle.session.specs.Scripts.{run_of, headers_taken, header_answers, held_of, body_answers}
 use Rattle.session.specs.Playing.{HeaderPlayed, BodyPlayed}
 use Rattle.session.specs.Logs.{FinishKept, last_of}
-use Rattle.session.specs.Plays.{AgreesWith, SealEnds, OpenVerdict, OpenEnds, SealPromise, OpenPromise, SealingPlayed, OpeningPlayed, tag_of}
-use Rattle.session.proofs.Promises.{blocks, two_runs}
-use Rattle.session.proofs.Stepping.{held_same}
+use Rattle.session.specs.Plays.{AgreesWith, HeldBack, LastHanded, SealEnds, OpenVerdict, OpenEnds, SealPromise, OpenPromise, SealingPlayed, OpeningPlayed, tag_of}
+use Rattle.session.proofs.Promises.{blocks, two_runs, seal_long}
+use Rattle.session.proofs.Stepping.{held_back, held_same}
 
 agrees : (w : Direction) (f : Functions) → Lawful f → (R : Run) → Blocks w f R → AgreesWith w f R
 agrees w f L R b = λ R' b' h k l l'. two_runs w f L R R' b b' h k l l'
@@ -37,22 +38,34 @@ agrees w f L R b = λ R' b' h k l l'. two_runs w f L R R' b b' h k l l'
 nothing_more : (R : Run) → finished R [] ≡ R
 nothing_more R = ap (λ (o : List ℕ). record { key = R.key; header = R.header; body = R.body; out = o }) (append-nil R.out)
 
+-- what an accepted finish handed out
+last_handed : (R : Run) (last : List ℕ) → HeldBack R → held R ≡ held_of (length R.body) → length (R.out ++ take (held R) last) ≡ length R.body → drop (held R) last ≡ replicate (16 - held R) 0 → LastHanded (finished R (take (held R) last)) last
+last_handed R last o h a z = record {
+  all = a;
+  bytes = ap (λ i. take i last) (sym h) ∙ sym (drop_at R.out (take (held R) last) (writes (length R.body)) o);
+  zeros = subst (λ (i : ℕ). drop i last ≡ replicate (16 - i) 0) h z;
+}
+
 -- a finish of a sealing: the last bytes belong to the run, and what it promises
-sealed_end : (o : Option (Placed SessionFault)) (f : Functions) (R : Run) (last tag : List ℕ) (r : Result ℕ (Placed SessionFault)) → Blocks sealing f R → held R ≡ held_of (length R.body) → SealedBy o f R last tag r
+sealed_end : (o : Option (Placed SessionFault)) (f : Functions) (R : Run) (last tag : List ℕ) (r : Result ℕ (Placed SessionFault)) → Lawful f → Blocks sealing f R → HeldBack R → held R ≡ held_of (length R.body) → SealedBy o f R last tag r
     → Blocks sealing f (finished R (last_of r last)) × SealEnds o f (finished R (last_of r last)) r last tag
-sealed_end None f R last tag r b h s =
-    subst (λ (i : Result ℕ (Placed SessionFault)). Blocks sealing f (finished R (last_of i last)) × SealEnds None f (finished R (last_of i last)) i last tag) (sym s.answer) (s.blocks, (ap Ok h, s.seals, subst (λ (i : ℕ). drop i last ≡ replicate (16 - i) 0) h s.zeros))
-sealed_end (Some e) f R last tag r b h s =
-    subst (λ (i : Result ℕ (Placed SessionFault)). Blocks sealing f (finished R (last_of i last)) × SealEnds (Some e) f (finished R (last_of i last)) i last tag) (sym s.0) (subst (Blocks sealing f) (sym (nothing_more R)) b, (refl, s.1, s.2))
+sealed_end None f R last tag r l b o h s =
+    subst (λ (i : Result ℕ (Placed SessionFault)). Blocks sealing f (finished R (last_of i last)) × SealEnds None f (finished R (last_of i last)) i last tag) (sym s.answer)
+    (s.blocks, (ap Ok h, s.seals, last_handed R last o h (seal_long f l _ _ _ _ s.seals) s.zeros))
+sealed_end (Some e) f R last tag r l b o h s =
+    subst (λ (i : Result ℕ (Placed SessionFault)). Blocks sealing f (finished R (last_of i last)) × SealEnds (Some e) f (finished R (last_of i last)) i last tag) (sym s.0)
+    (subst (Blocks sealing f) (sym (nothing_more R)) b, (refl, s.1, s.2, subst HeldBack (sym (nothing_more R)) o))
 
 -- the same of an opening
-opened_end : (o : Option (Placed SessionFault)) (f : Functions) (R : Run) (T last : List ℕ) (r : Result ℕ (Placed SessionFault)) → Blocks opening f R → held R ≡ held_of (length R.body) → OpenedBy o f R T last r
+opened_end : (o : Option (Placed SessionFault)) (f : Functions) (R : Run) (T last : List ℕ) (r : Result ℕ (Placed SessionFault)) → Lawful f → Blocks opening f R → HeldBack R → held R ≡ held_of (length R.body) → OpenedBy o f R T last r
     → Blocks opening f (finished R (last_of r last)) × OpenEnds o f (finished R (last_of r last)) T r last
-opened_end None f R T last (Ok n) b h s =
-    subst (λ (i : ℕ). Blocks opening f (finished R (take i last)) × OpenVerdict f (finished R (take i last)) T (Ok i) last) (sym s.0) (s.1.blocks, (h, s.1.seals, s.1.only, s.1.zeros))
-opened_end None f R T last (Err e) b h s = (subst (Blocks opening f) (sym (nothing_more R)) b, (s.fault, s.none, s.zeros))
-opened_end (Some e) f R T last r b h s =
-    subst (λ (i : Result ℕ (Placed SessionFault)). Blocks opening f (finished R (last_of i last)) × OpenEnds (Some e) f (finished R (last_of i last)) T i last) (sym s.0) (subst (Blocks opening f) (sym (nothing_more R)) b, (refl, s.1))
+opened_end None f R T last (Ok n) l b o h s =
+    subst (λ (i : ℕ). Blocks opening f (finished R (take i last)) × OpenVerdict f (finished R (take i last)) T (Ok i) last) (sym s.0)
+    (s.1.blocks, (h, s.1.seals, s.1.only, last_handed R last o h (sym (seal_long f l _ _ _ _ s.1.seals)) s.1.zeros))
+opened_end None f R T last (Err e) l b o h s = (subst (Blocks opening f) (sym (nothing_more R)) b, (s.fault, s.none, s.zeros, subst HeldBack (sym (nothing_more R)) o))
+opened_end (Some e) f R T last r l b o h s =
+    subst (λ (i : Result ℕ (Placed SessionFault)). Blocks opening f (finished R (last_of i last)) × OpenEnds (Some e) f (finished R (last_of i last)) T i last) (sym s.0)
+    (subst (Blocks opening f) (sym (nothing_more R)) b, (refl, s.1, subst HeldBack (sym (nothing_more R)) o))
 
 -- the run once a finish is kept
 finished_run : (key last : List ℕ) (r : Result ℕ (Placed SessionFault)) (p p' : Played) → FinishKept r last p p' → finished (run_of key p) (last_of r last) ≡ run_of key p'
@@ -68,13 +81,13 @@ module _ {A W B C D : Type 0} {u : suite.Ghosts A B C D} {x : permutation.Ghosts
   sealing_unfinished fin we fe = subst (λ (i : Bool). SealingPlayed bs i p p₁ Unfinished s) (sym fe) λ key a.
       let c = N.at key a in
       let b = stood we key c in
-      record { header = N.header; body = N.body key a; blocks = b; agrees = agrees sealing (u.under key) (L key c.taken.key_block) (run_of key p₁) b; finish = (refl, N.answers key a) }
+      record { header = N.header; body = N.body key a; blocks = b; agrees = agrees sealing (u.under key) (L key c.taken.key_block) (run_of key p₁) b; finish = (refl, N.answers key a, held_back L (run_of key p₁) s₁ c) }
 
   pub opening_unfinished : (o : Option (Bor (List ℕ))) → w.way ≡ opening → o ≡ None → OpeningPlayed bs o p p₁ Unfinished s
   opening_unfinished o we ne = subst (λ (i : Option (Bor (List ℕ))). OpeningPlayed bs i p p₁ Unfinished s) (sym ne) λ key a.
       let c = N.at key a in
       let b = stood we key c in
-      record { header = N.header; body = N.body key a; blocks = b; agrees = agrees opening (u.under key) (L key c.taken.key_block) (run_of key p₁) b; finish = (refl, N.answers key a) }
+      record { header = N.header; body = N.body key a; blocks = b; agrees = agrees opening (u.under key) (L key c.taken.key_block) (run_of key p₁) b; finish = (refl, N.answers key a, held_back L (run_of key p₁) s₁ c) }
 
   module _ (p₂ : Played) (last : List ℕ) (r : Result ℕ (Placed SessionFault)) (F : FinishKept r last p₁ p₂) where
     kept_answers : (key : List ℕ) → SessionAt (run_of key p) s → vec_items p₂.answers ≡ vec_items p.answers ++ body_answers (vec_items p.body) bs ++ Finish r ∷ []
@@ -85,7 +98,7 @@ module _ {A W B C D : Type 0} {u : suite.Ghosts A B C D} {x : permutation.Ghosts
         let c = N.at key a in
         let l = L key c.taken.key_block in
         let R = run_of key p₁ in
-        let q = sealed_end (empty_check (length R.body)) (u.under key) R last tag r (stood we key c) (held_same L R s₁ c) (S R c) in
+        let q = sealed_end (empty_check (length R.body)) (u.under key) R last tag r l (stood we key c) (held_back L R s₁ c) (held_same L R s₁ c) (S R c) in
         let run = finished_run key last r p₁ p₂ F in
         let b : Blocks sealing (u.under key) (run_of key p₂) = subst (Blocks sealing (u.under key)) run q.0 in
         record {
@@ -101,7 +114,7 @@ module _ {A W B C D : Type 0} {u : suite.Ghosts A B C D} {x : permutation.Ghosts
         let c = N.at key a in
         let l = L key c.taken.key_block in
         let R = run_of key p₁ in
-        let q = opened_end (end_check (length R.body) (length t.now)) (u.under key) R t.now last r (stood we key c) (held_same L R s₁ c) (S R c) in
+        let q = opened_end (end_check (length R.body) (length t.now)) (u.under key) R t.now last r l (stood we key c) (held_back L R s₁ c) (held_same L R s₁ c) (S R c) in
         let run = finished_run key last r p₁ p₂ F in
         let b : Blocks opening (u.under key) (run_of key p₂) = subst (Blocks opening (u.under key)) run q.0 in
         record {

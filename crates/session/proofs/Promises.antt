@@ -73,11 +73,15 @@ two_runs opening f L R R' b b' h k l l' =
     (subst (λ (H : List ℕ). Tied f H k R'.out R'.body) h (b'.tied k l')) in
     (p.1, p.0)
 
+-- a ciphertext is as long as its message
+pub seal_long : (f : Functions) → Lawful f → (H M C T : List ℕ) → Seals f H M C T → length C ≡ length M
+seal_long f L H M C T s = cipher_length f L H M C T ((computing_law f L H M C T).1 s)
+
 -- a seal's message and ciphertext, taken and handed out one way or the other
 pub sealed_blocks : (f : Functions) → Lawful f → (b H M C T : List ℕ) → Seals f H M C T → Blocks sealing f (record { key = b; header = H; body = M; out = C }) × Blocks opening f (record { key = b; header = H; body = C; out = M })
 sealed_blocks f L b H M C T s =
     let c = (computing_law f L H M C T).1 s in
-    let n = cipher_length f L H M C T c in
+    let n = seal_long f L H M C T s in
     let cb = (sealed_accepts f L H M C T c).limits.bytes in (
       record {
         header_bytes = s.limits.header_bytes;

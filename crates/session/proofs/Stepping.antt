@@ -16,7 +16,7 @@ use Rattle.session.specs.declared.rows.Way as way
 use Rattle.session.specs.declared.types.Session.{Session}
 use Rattle.session.specs.Calls.{answered}
 use Rattle.session.specs.Runs.{Run}
-use Rattle.session.specs.Sessions.{HeadingAt, HeaderBy, header_check, SessionAt, BodyBy, body_check, held, given_of}
+use Rattle.session.specs.Sessions.{HeadingAt, HeaderBy, header_check, SessionAt, BodyBy, body_check, held, given_of, writes}
 use Rattle.session.specs.Scripts.{run_of, taken, held_of, body_check_of}
 use Rattle.session.specs.Logs.{kept, written_of, HeaderKept, BodyKept}
 use Rattle.session.specs.Playing.{HeaderPlayed, BodyPlayed}
@@ -71,6 +71,10 @@ module _ {A W B C D : Type 0} {u : suite.Ghosts A B C D} {x : permutation.Ghosts
       subst (λ (Q : Run). SessionAt Q s') run (subst (SessionAt R) (sym h.1) a)
 
   module _ (L : (key : List ℕ) → Block key → Lawful (u.under key)) where
+    -- before a finish the body calls handed out what the rule says
+    pub held_back : (R : Run) (s : Session A W B C D u x y z w) → SessionAt R s → length R.out ≡ writes (length R.body)
+    held_back R s a = out_length (u.under R.key) (L R.key a.taken.key_block) w.way R a.taken.header_bytes a.taken.body_bytes a.out_is
+
     -- the bytes held back, by the rule and by the run
     pub held_same : (R : Run) (s : Session A W B C D u x y z w) → SessionAt R s → held R ≡ held_of (length R.body)
     held_same R s a = let o = out_length (u.under R.key) (L R.key a.taken.key_block) w.way R a.taken.header_bytes a.taken.body_bytes a.out_is in omega arith
