@@ -22,17 +22,14 @@ use Rattle.session.specs.declared.types.Session.{Session}
 use Rattle.session.specs.declared.types.Heading.{Heading}
 use Rattle.session.specs.Directions.{Direction, sealing, opening}
 use Rattle.session.specs.Runs.{Run, fresh, finished}
-use Rattle.session.specs.Promise.{Blocks}
+use Rattle.session.specs.Promise.{Blocks, AgreesWith}
 use Rattle.session.specs.Sessions.{HeadingAt, SessionAt, held, writes, empty_check, end_check, SealedBy, OpenedBy}
 use Rattle.session.specs.Scripts.{run_of, headers_taken, header_answers, held_of, body_answers}
 use Rattle.session.specs.Playing.{HeaderPlayed, BodyPlayed}
 use Rattle.session.specs.Logs.{FinishKept, last_of}
-use Rattle.session.specs.Plays.{AgreesWith, HeldBack, LastHanded, SealEnds, OpenVerdict, OpenEnds, SealPromise, OpenPromise, SealingPlayed, OpeningPlayed, tag_of}
-use Rattle.session.proofs.Promises.{blocks, two_runs, seal_long}
+use Rattle.session.specs.Plays.{HeldBack, LastHanded, SealEnds, OpenVerdict, OpenEnds, SealPromise, OpenPromise, SealingPlayed, OpeningPlayed, tag_of}
+use Rattle.session.proofs.Promises.{blocks, agrees, seal_long}
 use Rattle.session.proofs.Stepping.{held_back, held_same}
-
-agrees : (w : Direction) (f : Functions) → Lawful f → (R : Run) → Blocks w f R → AgreesWith w f R
-agrees w f L R b = λ R' b' h k l l'. two_runs w f L R R' b b' h k l l'
 
 -- a finish that hands out nothing leaves the run as it was
 nothing_more : (R : Run) → finished R [] ≡ R
@@ -65,7 +62,7 @@ opened_end None f R T last (Ok n) l b o h s =
 opened_end None f R T last (Err e) l b o h s = (subst (Blocks opening f) (sym (nothing_more R)) b, (s.fault, s.none, s.zeros, subst HeldBack (sym (nothing_more R)) o))
 opened_end (Some e) f R T last r l b o h s =
     subst (λ (i : Result ℕ (Placed SessionFault)). Blocks opening f (finished R (last_of i last)) × OpenEnds (Some e) f (finished R (last_of i last)) T i last) (sym s.0)
-    (subst (Blocks opening f) (sym (nothing_more R)) b, (refl, s.1, subst HeldBack (sym (nothing_more R)) o))
+    (subst (Blocks opening f) (sym (nothing_more R)) b, (refl, s.1, s.2, subst HeldBack (sym (nothing_more R)) o))
 
 -- the run once a finish is kept
 finished_run : (key last : List ℕ) (r : Result ℕ (Placed SessionFault)) (p p' : Played) → FinishKept r last p p' → finished (run_of key p) (last_of r last) ≡ run_of key p'

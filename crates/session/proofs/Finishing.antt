@@ -1,7 +1,8 @@
 -- The end of a session, from what the mode computes to what the calls promise.
-use Rattle.std.proofs.Common.{◌≡◌, ℕ, ◌-◌, ◌≤◌, true, false, eqb, List, ◌++◌, length, take, drop, replicate, Some, None, Ok, Err, Option, sym, refl, ap, ◌∙◌, subst, ap₂, arith, ne_eqb, eqb-true}
+use Rattle.std.proofs.Common.{◌≡◌, ℕ, ◌-◌, ◌≤◌, true, false, eqb, List, ◌++◌, length, take, drop, replicate, Some, None, Ok, Err, Option, sym, refl, ap, ◌∙◌, subst, ap₂, arith, ne_eqb, eqb-true, Bool, cond}
+use Rattle.std.proofs.lemmas.Bool.{eqb-false}
 use Rattle.fault.specs.declared.kinds.SessionFault.{SessionFault}
-use Rattle.fault.specs.declared.kinds.SessionFault.TheVariants.{Forged}
+use Rattle.fault.specs.declared.kinds.SessionFault.TheVariants.{Forged, Tag}
 use Rattle.fault.specs.declared.kinds.Placed.{Placed}
 use Rattle.poet.specs.Bytes.{Bytes, Block}
 use Rattle.poet.specs.Functions.{Functions, Lawful}
@@ -15,7 +16,7 @@ use Rattle.session.specs.Runs.{Run}
 use Rattle.session.specs.Sessions.{Taken, rows_of, held, SealFinished, OpenFinished, OpenRefused, OpenedBy, end_check}
 use Rattle.session.specs.Steps.{Tested}
 use Rattle.session.proofs.Endings.{last_bytes}
-use Rattle.session.proofs.Promises.{blocks, sealed_blocks}
+use Rattle.session.proofs.Promises.{blocks, agrees, sealed_blocks}
 use Rattle.session.proofs.Passing.{answered_ok, only_none}
 use Rattle.session.proofs.Stretches.{out_length}
 
@@ -43,6 +44,7 @@ module _ (f : Functions) (L : Lawful f) (R : Run) (t : Taken R) (lim : Limits R.
         answer = ap Ok (le ∙ sym (held_is f L sealing R t oe));
         seals = seals;
         blocks = (sealed_blocks f L R.key R.header R.body (R.out ++ take (held R) l) T seals).0;
+        agrees = agrees sealing f L _ (sealed_blocks f L R.key R.header R.body (R.out ++ take (held R) l) T seals).0;
         zeros = b.1;
       }
 
@@ -57,6 +59,7 @@ module _ (f : Functions) (L : Lawful f) (R : Run) (t : Taken R) (lim : Limits R.
           seals = seals;
           only = λ n p. O.only n p ∙ sym m;
           blocks = (sealed_blocks f L R.key R.header (R.out ++ take (held R) l) R.body T seals).1;
+          agrees = agrees opening f L _ (sealed_blocks f L R.key R.header (R.out ++ take (held R) l) R.body T seals).1;
           zeros = b.1;
         },
       )
@@ -65,7 +68,7 @@ open_refused : (f : Functions) (L : Lawful f) (R : Run) → Taken R → R.out �
     → e' ≡ record { fault = Forged; place = length R.body } → OpenRefused f R T l' e'
 open_refused f L R t oe lim T G s l' e' z ee =
     let O = opening_law f L R.header R.body T in
-    record { fault = ee; none = λ m p. let a = O.accepts.1 (m, p) in s (record { fill = a.fill; check = a.check }); blocks = blocks f L opening R t oe; zeros = z }
+    record { fault = ee; none = λ m p. let a = O.accepts.1 (m, p) in s (record { fill = a.fill; check = a.check }); blocks = blocks f L opening R t oe; agrees = agrees opening f L R (blocks f L opening R t oe); zeros = z }
 
 -- an opening's finish, once the tag has passed its check: T is the tag given, and T' what the check answered
 module _ (f : Functions) (L : Lawful f) (R : Run) (t : Taken R) (total : ℕ) (te : total ≡ length R.body) (some : 1 ≤ total) (most : total ≤ 1048576) (T T' : List ℕ) (tb : Bytes T)
@@ -95,3 +98,17 @@ module _ (f : Functions) (L : Lawful f) (R : Run) (t : Taken R) (total : ℕ) (t
   pub opening_refuses : Tested f R.header R.body T' (rows_of opening f R).out None → OpenedBy (end_check (length R.body) (length T)) f R T (replicate 16 0) (Err (record { fault = Forged; place = total }))
   opening_refuses s =
       rw (taken_some, sixteen) (open_refused f L R t oe lim T (rows_of opening f R).out (same_tag None s) (replicate 16 0) (record { fault = Forged; place = total }) refl (ap (λ n. record { fault = Forged; place = n }) te))
+
+-- no message seals to no ciphertext, or with a tag of another length
+pub none_empty : (f : Functions) → Lawful f → (R : Run) (T : List ℕ) → length R.body ≡ 0 → (M : List ℕ) → Seals f R.header M R.body T → ⊥
+none_empty f L R T e M s = let a = (opening_law f L R.header R.body T).accepts.1 (M, s) in let b = a.limits.some in omega arith
+
+pub none_tag : (f : Functions) → Lawful f → (R : Run) (T : List ℕ) → (length T ≡ 16 → ⊥) → (M : List ℕ) → Seals f R.header M R.body T → ⊥
+none_tag f L R T e M s = let a = (opening_law f L R.header R.body T).accepts.1 (M, s) in e a.tag_block.long
+
+tag_of_none : (b : Bool) (T : List ℕ) (place : ℕ) (e : Placed SessionFault) → Err e ≡ answered (cond b None (Some (record { fault = Tag; place = place }))) T → (b ≡ false) × (e ≡ record { fault = Tag; place = place })
+tag_of_none true T place e h = cc
+tag_of_none false T place e h = (refl, cc)
+
+pub tag_refused : (T : List ℕ) (place : ℕ) (e : Placed SessionFault) → Err e ≡ answered (tag_check (length T) place) T → (length T ≡ 16 → ⊥) × (e ≡ record { fault = Tag; place = place })
+tag_refused T place e h = let r = tag_of_none (eqb (length T) 16) T place e h in ((λ n. eqb-false (length T) 16 r.0 n), r.1)

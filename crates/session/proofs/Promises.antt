@@ -13,7 +13,7 @@ use Rattle.poet.proofs.Ties.{row, ties}
 use Rattle.poet.proofs.Prefix.{prefix_law, seal_tied}
 use Rattle.session.specs.Directions.{Direction, sealing, opening, picks, turns}
 use Rattle.session.specs.Runs.{Run}
-use Rattle.session.specs.Promise.{TiedBy, Blocks, TwoRuns}
+use Rattle.session.specs.Promise.{TiedBy, Blocks, TwoRuns, AgreesWith}
 use Rattle.session.specs.Sessions.{Taken, rows_of}
 use Rattle.session.proofs.Stretches.{both_ways, turns_kept, turns_out, out_length}
 
@@ -72,6 +72,9 @@ two_runs opening f L R R' b b' h k l l' =
     prefix_law f L R.header b.header_bytes R.out R'.out R.body R'.body k b.out_bytes b'.out_bytes (b.handed k l) (b'.handed k l') (b.tied k l)
     (subst (λ (H : List ℕ). Tied f H k R'.out R'.body) h (b'.tied k l')) in
     (p.1, p.0)
+
+pub agrees : (w : Direction) (f : Functions) → Lawful f → (R : Run) → Blocks w f R → AgreesWith w f R
+agrees w f L R b = λ R' b' h k l l'. two_runs w f L R R' b b' h k l l'
 
 -- a ciphertext is as long as its message
 pub seal_long : (f : Functions) → Lawful f → (H M C T : List ℕ) → Seals f H M C T → length C ≡ length M

@@ -22,13 +22,9 @@ use Rattle.session.specs.declared.rows.Way as way
 use Rattle.session.specs.declared.types.Session.{Session}
 use Rattle.session.specs.Directions.{Direction, sealing, opening}
 use Rattle.session.specs.Runs.{Run}
-use Rattle.session.specs.Promise.{Blocks}
+use Rattle.session.specs.Promise.{Blocks, AgreesWith}
 use Rattle.session.specs.Sessions.{SessionAt, writes, empty_check, end_check}
 use Rattle.session.specs.Scripts.{run_of, headers_taken, header_answers, bodies_taken, body_answers, held_of}
-
--- Two runs under one key and header handed out the same first k blocks exactly when they took the same first k blocks.
-abbrev pub AgreesWith : Direction → Functions → Run → Type 0
-AgreesWith w f R = (R' : Run) → Blocks w f R' → R'.header ≡ R.header → (k : ℕ) → 16 * k < length R.body → 16 * k < length R'.body → (take (16 * k) R.out ≡ take (16 * k) R'.out) ↔ (take (16 * k) R.body ≡ take (16 * k) R'.body)
 
 -- Where no finish was accepted, the body calls handed out every whole block that at least one byte follows, and the rest is held back.
 abbrev pub HeldBack : Run → Type 0
@@ -51,7 +47,7 @@ OpenVerdict f R T (Ok n) last = (n ≡ held_of (length R.body)) × Seals f R.hea
 OpenVerdict f R T (Err e) last = (e ≡ record { fault = Forged; place = length R.body }) × ((M : List ℕ) → Seals f R.header M R.body T → ⊥) × (last ≡ replicate 16 0) × HeldBack R
 
 abbrev pub OpenEnds : Option (Placed SessionFault) → (f : Functions) (R : Run) (T : List ℕ) (r : Result ℕ (Placed SessionFault)) (last : List ℕ) → Type 0
-OpenEnds (Some e) f R T r last = (r ≡ Err e) × (last ≡ replicate 16 0) × HeldBack R
+OpenEnds (Some e) f R T r last = (r ≡ Err e) × (last ≡ replicate 16 0) × ((M : List ℕ) → Seals f R.header M R.body T → ⊥) × HeldBack R
 OpenEnds None f R T r last = OpenVerdict f R T r last
 
 -- What is promised of a sealing under `key`: H is the header taken, M and `before` what was taken and answered before the body calls bs.

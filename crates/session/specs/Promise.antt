@@ -20,6 +20,10 @@ pub record Blocks (w : Direction) (f : Functions) (R : Run) : Type 0 where
   pub handed : (k : ℕ) → 16 * k < length R.body → 16 * k ≤ length R.out
   pub tied : (k : ℕ) → 16 * k < length R.body → TiedBy w f R.header k R.body R.out
 
+-- Two runs under one key and header handed out the same first k blocks exactly when they took the same first k blocks.
+abbrev pub AgreesWith : Direction → Functions → Run → Type 0
+AgreesWith w f R = (R' : Run) → Blocks w f R' → R'.header ≡ R.header → (k : ℕ) → 16 * k < length R.body → 16 * k < length R'.body → (take (16 * k) R.out ≡ take (16 * k) R'.out) ↔ (take (16 * k) R.body ≡ take (16 * k) R'.body)
+
 -- Two such runs under one key and header handed out the same first k blocks exactly when they took the same first k blocks.
 abbrev pub TwoRuns : Type 0
 TwoRuns = (w : Direction) (f : Functions) → Lawful f → (R R' : Run) → Blocks w f R → Blocks w f R' → R'.header ≡ R.header → (k : ℕ) → 16 * k < length R.body → 16 * k < length R'.body

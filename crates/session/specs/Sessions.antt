@@ -18,7 +18,7 @@ use Rattle.session.specs.Engines.{EngineAt}
 use Rattle.session.specs.Calls.{tag_check}
 use Rattle.session.specs.Directions.{Direction, sealing, opening, picks, turns}
 use Rattle.session.specs.Runs.{Run, headed, bodied, finished}
-use Rattle.session.specs.Promise.{Blocks}
+use Rattle.session.specs.Promise.{Blocks, AgreesWith}
 
 -- what a run can have taken
 pub record Taken (R : Run) : Type 0 where
@@ -82,6 +82,7 @@ pub record BodyTaken {A W B C D : Type 0} {u : suite.Ghosts A B C D} {p : permut
   pub rest : drop (writes (held R + length P)) o' ≡ drop (writes (held R + length P)) o
   pub at : SessionAt (bodied R P (take (writes (held R + length P)) o')) s'
   pub blocks : Blocks w.way (u.under R.key) (bodied R P (take (writes (held R + length P)) o'))
+  pub agrees : AgreesWith w.way (u.under R.key) (bodied R P (take (writes (held R + length P)) o'))
 
 abbrev pub BodyBy : {A W B C D : Type 0} {u : suite.Ghosts A B C D} {p : permutation.Ghosts B} {h : hash.Ghosts C} {d : digest.Ghosts D} {w : way.Ghosts W} → Option (Placed SessionFault) → Run → (P o o' : List ℕ) → (s s' : Session A W B C D u p h d w) → Result (ℕ × ℕ) (Placed SessionFault) → Type 0
 BodyBy (Some e) R P o o' s s' r = (r ≡ Err e) × (s' ≡ s) × (o' ≡ o)
@@ -96,6 +97,7 @@ pub record SealFinished (f : Functions) (R : Run) (l' t' : List ℕ) (r : Result
   pub answer : r ≡ Ok (held R)
   pub seals : Seals f R.header R.body (R.out ++ take (held R) l') t'
   pub blocks : Blocks sealing f (finished R (take (held R) l'))
+  pub agrees : AgreesWith sealing f (finished R (take (held R) l'))
   pub zeros : drop (held R) l' ≡ replicate (16 - held R) 0
 
 abbrev pub SealedBy : Option (Placed SessionFault) → (f : Functions) → Run → (l' t' : List ℕ) → Result ℕ (Placed SessionFault) → Type 0
@@ -111,12 +113,14 @@ pub record OpenFinished (f : Functions) (R : Run) (T l' : List ℕ) : Type 0 whe
   pub seals : Seals f R.header (R.out ++ take (held R) l') R.body T
   pub only : (M : List ℕ) → Seals f R.header M R.body T → M ≡ R.out ++ take (held R) l'
   pub blocks : Blocks opening f (finished R (take (held R) l'))
+  pub agrees : AgreesWith opening f (finished R (take (held R) l'))
   pub zeros : drop (held R) l' ≡ replicate (16 - held R) 0
 
 pub record OpenRefused (f : Functions) (R : Run) (T l' : List ℕ) (e : Placed SessionFault) : Type 0 where
   pub fault : e ≡ record { fault = Forged; place = length R.body }
   pub none : (M : List ℕ) → Seals f R.header M R.body T → ⊥
   pub blocks : Blocks opening f R
+  pub agrees : AgreesWith opening f R
   pub zeros : l' ≡ replicate 16 0
 
 abbrev pub OpenJudged : (f : Functions) → Run → (T l' : List ℕ) → Result ℕ (Placed SessionFault) → Type 0
@@ -124,5 +128,5 @@ OpenJudged f R T l' (Ok n) = (n ≡ held R) × OpenFinished f R T l'
 OpenJudged f R T l' (Err e) = OpenRefused f R T l' e
 
 abbrev pub OpenedBy : Option (Placed SessionFault) → (f : Functions) → Run → (T l' : List ℕ) → Result ℕ (Placed SessionFault) → Type 0
-OpenedBy (Some e) f R T l' r = (r ≡ Err e) × (l' ≡ replicate 16 0)
+OpenedBy (Some e) f R T l' r = (r ≡ Err e) × (l' ≡ replicate 16 0) × ((M : List ℕ) → Seals f R.header M R.body T → ⊥)
 OpenedBy None f R T l' r = OpenJudged f R T l' r

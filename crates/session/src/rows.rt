@@ -19,6 +19,17 @@ pub trait Way {
     fn pass<P: Permutation>(p: &P, x: [u8; 16]) -> [u8; 16]
         ensures { result ≡ picks way (P.Permutation.enc p.now) (P.Permutation.dec p.now) x };
 
+    // What a row wants of the blocks x and y: x passed and hashed, and y hashed.
+    fn ahead<S: Suite>(
+        p: &S::Permutation,
+        h: &S::ChainingHash,
+        x: [u8; 16],
+        y: [u8; 16],
+    ) -> ([u8; 16], [u8; 16], [u8; 16])
+        ensures first { result.0 ≡ picks way (S.Permutation.Permutation.enc p.now) (S.Permutation.Permutation.dec p.now) x }
+        ensures second { result.1 ≡ S.ChainingHash.ChainingHash.chain h.now x }
+        ensures third { result.2 ≡ S.ChainingHash.ChainingHash.chain h.now y };
+
     // The lanes that begin at X_0 and Y_0.
     fn lanes(x: [u8; 16], y: [u8; 16]) -> Lanes
         ensures taking { result.taking ≡ (turns way (lanes x y)).x }
@@ -36,6 +47,15 @@ impl Way for Seal {
         p.encrypt(x)
     }
 
+    fn ahead<S: Suite>(
+        p: &S::Permutation,
+        h: &S::ChainingHash,
+        x: [u8; 16],
+        y: [u8; 16],
+    ) -> ([u8; 16], [u8; 16], [u8; 16]) {
+        S::forth(p, h, x, y)
+    }
+
     fn lanes(x: [u8; 16], y: [u8; 16]) -> Lanes {
         Lanes {
             taking: x,
@@ -49,6 +69,15 @@ impl Way for Open {
 
     fn pass<P: Permutation>(p: &P, x: [u8; 16]) -> [u8; 16] {
         p.decrypt(x)
+    }
+
+    fn ahead<S: Suite>(
+        p: &S::Permutation,
+        h: &S::ChainingHash,
+        x: [u8; 16],
+        y: [u8; 16],
+    ) -> ([u8; 16], [u8; 16], [u8; 16]) {
+        S::back(p, h, x, y)
     }
 
     fn lanes(x: [u8; 16], y: [u8; 16]) -> Lanes {
@@ -67,14 +96,27 @@ pub struct Lanes {
 }
 
 impl<S: Suite> Engine<S> {
-    // One row: the block that it gives, with both sequences one block on.
-    fn row<W: Way>(&self, lanes: Lanes, block: [u8; 16]) -> (Lanes, [u8; 16])
-        ensures { (f : Functions) (H : List ℕ) → EngineAt S.Permutation.Permutation S.ChainingHash.ChainingHash f H self.now → Stepped (picks W.Way.way f.enc f.dec) f.chain lanes block result.0 result.1 }
+    // One row, of which the chaining hash of the block where blocks come in is known: the block that it gives, with both sequences one block
+    // on, and that hash for the next row.
+    #[inline(always)]
+    fn row<W: Way>(
+        &self,
+        lanes: Lanes,
+        hashed: [u8; 16],
+        block: [u8; 16],
+    ) -> (Lanes, [u8; 16], [u8; 16])
+        ensures stepped { (f : Functions) (H : List ℕ) → EngineAt S.Permutation.Permutation S.ChainingHash.ChainingHash f H self.now → hashed ≡ f.chain lanes.taking → Stepped (picks W.Way.way f.enc f.dec) f.chain lanes block result.0 result.1 }
+        ensures hashed { (f : Functions) (H : List ℕ) → EngineAt S.Permutation.Permutation S.ChainingHash.ChainingHash f H self.now → result.2 ≡ f.chain result.0.taking }
     {
-        let taking = xor(block, self.hash.hash(lanes.taking));
-        let giving = W::pass(&self.permutation, taking);
-        let given = xor(giving, self.hash.hash(lanes.giving));
-        (Lanes { taking, giving }, given)
+        let taking = xor(block, hashed);
+        let (giving, next, over) = W::ahead::<S>(
+            &self.permutation,
+            &self.hash,
+            taking,
+            lanes.giving,
+        );
+        let given = xor(giving, over);
+        (Lanes { taking, giving }, given, next)
     }
 
     // The last row, with the mask on both sides of the permutation.
@@ -109,6 +151,7 @@ impl<S: Suite> Engine<S> {
     {
         let mut lanes = lanes;
         let mut input = input;
+        let mut hashed = self.hash.hash(lanes.taking);
         // Kept: tried with chunks_exact_mut, after which a proof knows the length of `out`, and not its bytes.
         for i in 0..n {
             let more = 16 - held.as_slice().len();
@@ -116,8 +159,9 @@ impl<S: Suite> Engine<S> {
             input = &input[more..];
             let block = complete(held.as_slice(), &[0; 16]);
             *held = Buffer::new();
-            let (next, given) = self.row::<W>(lanes, block);
+            let (next, given, further) = self.row::<W>(lanes, hashed, block);
             lanes = next;
+            hashed = further;
             let at = 16 * i;
             out[at..at + 16].copy_from_slice(&given);
         }

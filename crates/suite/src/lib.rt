@@ -77,5 +77,33 @@ pub trait Suite {
         ensures chain { Self.ChainingHash.ChainingHash.chain result.hash ≡ (under key).chain }
         ensures dig { Self.HeaderDigest.HeaderDigest.rule result.digest ≡ (under key).dig };
 
+    // What a row of sealing wants of x and y, side by side where a suite can: x permuted and hashed, and y hashed.
+    fn forth(
+        permutation: &Self::Permutation,
+        hash: &Self::ChainingHash,
+        x: [u8; 16],
+        y: [u8; 16],
+    ) -> ([u8; 16], [u8; 16], [u8; 16])
+        ensures first { result.0 ≡ Self.Permutation.Permutation.enc permutation.now x }
+        ensures second { result.1 ≡ Self.ChainingHash.ChainingHash.chain hash.now x }
+        ensures third { result.2 ≡ Self.ChainingHash.ChainingHash.chain hash.now y }
+    {
+        (permutation.encrypt(x), hash.hash(x), hash.hash(y))
+    }
+
+    // The same of a row of opening: x unpermuted and hashed, and y hashed.
+    fn back(
+        permutation: &Self::Permutation,
+        hash: &Self::ChainingHash,
+        x: [u8; 16],
+        y: [u8; 16],
+    ) -> ([u8; 16], [u8; 16], [u8; 16])
+        ensures first { result.0 ≡ Self.Permutation.Permutation.dec permutation.now x }
+        ensures second { result.1 ≡ Self.ChainingHash.ChainingHash.chain hash.now x }
+        ensures third { result.2 ≡ Self.ChainingHash.ChainingHash.chain hash.now y }
+    {
+        (permutation.decrypt(x), hash.hash(x), hash.hash(y))
+    }
+
     ghost lawful: { (key : List ℕ) → Block key → Lawful (under key) };
 }

@@ -4,7 +4,7 @@ use Rattle.session.proofs.Runs.{ran_none, ran_more, more_fits, block_next}
 use Rattle.session.proofs.engine.Engine.run.Goals as goal
 
 pub loop-i-init : goal.loop-i-init
-loop-i-init g c = record { ran = λ f H a. ran_none _ _ _ _ _; left = refl }
+loop-i-init g c = record { ran = λ f H a. ran_none _ _ _ _ _; hashed = λ f H a. cc; left = refl }
 
 pub slice_bounds-input-count : goal.slice_bounds-input-count
 slice_bounds-input-count g c =
@@ -26,9 +26,10 @@ loop-i-preserved g c =
     record {
       ran =
           λ f H e.
-          ran_more _ _ _ _ _ _ _ _ (c.loop-i.invariant.ran f H e) c.complete-block.result _ _ c.copy_from_slice.new.self _ (c.row.ensures f H e) (c.complete-block.ensures ∙ b.0) c.copy_from_slice.ensures.after (omega arith)
+          ran_more _ _ _ _ _ _ _ _ (c.loop-i.invariant.ran f H e) c.complete-block.result _ _ c.copy_from_slice.new.self _ (c.row.ensures.stepped f H e (c.loop-i.invariant.hashed f H e)) (c.complete-block.ensures ∙ b.0) c.copy_from_slice.ensures.after (omega arith)
           (ap length c.copy_from_slice.ensures.after ∙ (omega arith))
           (omega arith)
           (omega arith);
+      hashed = λ f H e. c.row.ensures.hashed f H e;
       left = ap₂ ◌++◌ c.new.ensures (take_rest c.loop-i.input.now (16 - length c.as_slice.result.now)) ∙ b.1;
     }

@@ -4,7 +4,7 @@ use Rattle.poet.proofs.Xors.{bytes_append, bytes_from}
 use Rattle.session.specs.Directions.{picks, turns}
 use Rattle.session.specs.Runs.{bodied}
 use Rattle.session.specs.Sessions.{Taken, held, writes}
-use Rattle.session.proofs.Promises.{blocks}
+use Rattle.session.proofs.Promises.{blocks, agrees}
 use Rattle.session.proofs.Stretches.{out_length, stretched, left}
 use Rattle.session.proofs.types.Session.body.Goals as goal
 
@@ -62,6 +62,7 @@ returns-clause-call g c =
         total_is = omega arith;
       };
       blocks = rw g₁ (blocks f L g.W.Way.way (bodied R P (take (16 * n) c.run-self.new.out)) T q.2);
+      agrees = rw g₁ (agrees g.W.Way.way f L (bodied R P (take (16 * n) c.run-self.new.out)) (blocks f L g.W.Way.way (bodied R P (take (16 * n) c.run-self.new.out)) T q.2));
     }
 
 pub invariant_of-self : goal.invariant_of-self
