@@ -1,5 +1,5 @@
 -- Blocks as states.
-use Rattle.std.proofs.Common.{◌≡◌, ℕ, zero, suc, ◌+◌, ◌*◌, ◌<◌, List, [], ◌∷◌, ◌++◌, length, get_or, refl, sym, ap, ap₂, ◌∙◌, arith, lit<}
+use Rattle.std.proofs.Common.{◌≡◌, ℕ, zero, suc, ◌+◌, ◌*◌, ◌<◌, List, [], ◌∷◌, length, get_or, refl, ap, ap₂, ◌∙◌, arith, lit<}
 use Rattle.poet.specs.Bytes.{Bytes, Block}
 use Rattle.poet.proofs.Xors.{bytes_from}
 use Rattle.aes.specs.State.{byte_at, state}
@@ -18,11 +18,6 @@ relist (a ∷ x) (suc n) e = ap (λ (l : List ℕ). a ∷ l) (relist x n (omega 
 -- sixteen numbers are the state of themselves
 pub as_state : (x : List ℕ) → length x ≡ 16 → x ≡ state (byte_at x)
 as_state x e = relist x 16 e
-
--- four columns of four numbers
-pub four_columns : (a b c d : List ℕ) → length a ≡ 4 → length b ≡ 4 → length c ≡ 4 → length d ≡ 4
-    → ◌≡◌ {A = List ℕ} (get_or a 0 0 ∷ get_or a 1 0 ∷ get_or a 2 0 ∷ get_or a 3 0 ∷ get_or b 0 0 ∷ get_or b 1 0 ∷ get_or b 2 0 ∷ get_or b 3 0 ∷ get_or c 0 0 ∷ get_or c 1 0 ∷ get_or c 2 0 ∷ get_or c 3 0 ∷ get_or d 0 0 ∷ get_or d 1 0 ∷ get_or d 2 0 ∷ get_or d 3 0 ∷ []) (a ++ (b ++ (c ++ d)))
-four_columns a b c d la lb lc ld = sym (ap₂ ◌++◌ (relist a 4 la) (ap₂ ◌++◌ (relist b 4 lb) (ap₂ ◌++◌ (relist c 4 lc) (relist d 4 ld))))
 
 cons_of : {a b : ℕ} {x y : List ℕ} → a ≡ b → x ≡ y → ◌≡◌ {A = List ℕ} (a ∷ x) (b ∷ y)
 cons_of p q = ap₂ (λ (h : ℕ) (t : List ℕ). h ∷ t) p q

@@ -4,3 +4,8 @@ pub mod Rounds
 pub mod Undone
 pub mod Words
 pub mod Schedules
+mod Lanes
+mod Inversion
+mod Tower
+mod Mixing
+mod Backing

@@ -1,7 +1,7 @@
 -- One round more, as the loops count, and InvCipher in the groups of the code.
-use Rattle.std.proofs.Common.{◌≡◌, ℕ, zero, suc, ◌+◌, ◌-◌, ◌<◌, ◌≤◌, List, [], ◌∷◌, ◌++◌, length, get_or, take, drop, refl, sym, ap, ◌∙◌, arith, not-suc-le-zero, add-one, sub-one, length-append, length-drop, length-take-le}
+use Rattle.std.proofs.Common.{◌≡◌, ℕ, zero, suc, ◌+◌, ◌-◌, ◌<◌, ◌≤◌, List, [], ◌∷◌, ◌++◌, length, get_or, take, drop, refl, sym, ap, ◌∙◌, arith, not-suc-le-zero, add-one, sub-one, length-append}
 use Rattle.std.proofs.lemmas.List.{get_or-drop, get_or-take, get_or-append-add, take_at, take-take}
-use Rattle.aes.specs.State.{add_round_key, mix_columns, shift_rows, sub_bytes, inv_mix_columns, inv_shift_rows, inv_sub_bytes}
+use Rattle.aes.specs.State.{add_round_key, inv_mix_columns, inv_shift_rows, inv_sub_bytes}
 use Rattle.aes.specs.Cipher.{key_at, round, rounds, inv_round, inv_rounds, inv_cipher, inv_cipher4}
 use Rattle.aes.specs.Grouping.{unround, unrounds}
 
@@ -28,21 +28,15 @@ unrounds_less ks (suc n) s h = rw (sub-one, add-one)
 pub key_after : (ks : List (List ℕ)) (n i : ℕ) → i < n → get_or (take n (drop 1 ks)) i [] ≡ key_at ks (i + 1)
 key_after ks n i h = get_or-take n (drop 1 ks) i [] h ∙ get_or-drop 1 ks i [] ∙ ap (key_at ks) (omega arith)
 
-pub keys_long : (ks : List (List ℕ)) (n : ℕ) → length ks ≡ 11 → n < 11 → length (take (n + 1 - 1) (drop 1 ks)) ≡ n
-keys_long ks n l h = length-take-le (n + 1 - 1) (drop 1 ks) (omega (arith, length-drop 1 ks)) ∙ omega arith
-
-pub rounds_next : (ks : List (List ℕ)) (n i : ℕ) (k s t start : List ℕ) → i < n → k ≡ get_or (take n (drop 1 ks)) i [] → s ≡ rounds ks i start → t ≡ add_round_key k (mix_columns (shift_rows (sub_bytes s))) → t ≡ rounds ks (i + 1) start
-rounds_next ks n i k s t start h ke se te = te ∙ ap (λ x. add_round_key k (mix_columns (shift_rows (sub_bytes x)))) se ∙ ap (λ x. round x (rounds ks i start)) (ke ∙ key_after ks n i h) ∙ sym (rounds_more ks i start)
-
 -- the last of them taken away
 module _ (ks xs ys : List (List ℕ)) (k : List ℕ) (e : xs ≡ ys ++ k ∷ []) (l : xs ≡ take (length xs) (drop 1 ks)) where
-  longer : length xs ≡ length ys + 1
+  pub longer : length xs ≡ length ys + 1
   longer = ap length e ∙ length-append ys (k ∷ [])
 
   pub left : ys ≡ take (length ys) (drop 1 ks)
   left = sym (take_at ys (k ∷ []) (length ys) refl) ∙ ap (take (length ys)) (sym e ∙ l) ∙ take-take (length ys) (length xs) (drop 1 ks) (omega (arith, longer))
 
-  last : k ≡ key_at ks (length ys + 1)
+  pub last : k ≡ key_at ks (length ys + 1)
   last = sym (get_or-append-add ys (k ∷ []) 0 []) ∙ ap (λ n. get_or (ys ++ k ∷ []) n []) (omega arith) ∙ ap (λ z. get_or z (length ys) []) (sym e ∙ l) ∙ key_after ks (length xs) (length ys) (omega (arith, longer))
 
   pub fewer : (n : ℕ) → length xs ≤ n → length ys ≤ n

@@ -38,7 +38,7 @@ module _ (ks : List (List ℕ)) (keys : IsSchedule ks) where
   key_block : (i : ℕ) → i < 11 → Block (key_at ks i)
   key_block i h = keys.each i h
 
-  rounds_block : (n : ℕ) → n < 11 → (s : List ℕ) → Block s → Block (rounds ks n s)
+  pub rounds_block : (n : ℕ) → n < 11 → (s : List ℕ) → Block s → Block (rounds ks n s)
   unfolding rounds
   rounds_block zero h s b = b
   rounds_block (suc n) h s b = round_block (key_at ks (suc n)) (rounds ks n s) (key_block (suc n) h)

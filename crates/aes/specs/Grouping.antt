@@ -1,6 +1,6 @@
 -- The same in the groups by which the code goes. Proofs tie them to InvCipher and to KeyExpansion, and no contract of a public function
 -- cites them.
-use Rattle.std.specs.Prelude.{◌≡◌, ℕ, zero, suc, ◌+◌, ◌%◌, List, ◌++◌, bit_xor}
+use Rattle.std.specs.Prelude.{ℕ, zero, suc, ◌+◌, ◌%◌, List, bit_xor}
 use Rattle.field.specs.Substitution.{sub}
 use Rattle.aes.specs.State.{byte_at, state, add_round_key, inv_sub_bytes, inv_shift_rows, inv_mix_columns}
 use Rattle.aes.specs.Cipher.{key_at}
@@ -26,13 +26,3 @@ next_byte rc k r (suc c) = bit_xor (byte_at k r (suc c)) (next_byte rc k r c)
 
 unfoldable pub next_key : ℕ → List ℕ → List ℕ
 next_key rc k = state (next_byte rc k)
-
--- t is s with each column replaced by one that P gives for its four bytes
-abbrev pub ByColumns : (ℕ → ℕ → ℕ → ℕ → List ℕ → Type 0) → (s t : List ℕ) → Type 0
-ByColumns P s t =
-    (a : List ℕ) × (b : List ℕ) × (c : List ℕ) × (d : List ℕ)
-    × P (byte_at s 0 0) (byte_at s 1 0) (byte_at s 2 0) (byte_at s 3 0) a
-    × P (byte_at s 0 1) (byte_at s 1 1) (byte_at s 2 1) (byte_at s 3 1) b
-    × P (byte_at s 0 2) (byte_at s 1 2) (byte_at s 2 2) (byte_at s 3 2) c
-    × P (byte_at s 0 3) (byte_at s 1 3) (byte_at s 2 3) (byte_at s 3 3) d
-    × (t ≡ a ++ (b ++ (c ++ d)))

@@ -3,3 +3,5 @@ pub mod Cipher
 pub mod Expansion
 pub mod Grouping
 pub mod Laws
+pub mod Nibbles
+pub mod Between

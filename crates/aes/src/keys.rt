@@ -2,14 +2,17 @@
 ghost use Rattle.aes.specs.Grouping.{next_key};
 ghost use Rattle.std.specs.Prelude.{◌≡◌};
 
+use crate::vectors::sub_bytes;
+
 // The round key after k, with the round constant rc.
 pub(crate) fn next_key(k: [u8; 16], rc: u8) -> [u8; 16]
     ensures { result ≡ next_key rc k }
 {
-    let a0 = k[0] ^ (field::sub_byte(k[13]) ^ rc);
-    let a1 = k[1] ^ field::sub_byte(k[14]);
-    let a2 = k[2] ^ field::sub_byte(k[15]);
-    let a3 = k[3] ^ field::sub_byte(k[12]);
+    let s = sub_bytes(k);
+    let a0 = k[0] ^ (s[13] ^ rc);
+    let a1 = k[1] ^ s[14];
+    let a2 = k[2] ^ s[15];
+    let a3 = k[3] ^ s[12];
     let b0 = k[4] ^ a0;
     let b1 = k[5] ^ a1;
     let b2 = k[6] ^ a2;

@@ -1,4 +1,4 @@
-// Trials of AES-128: the examples of FIPS 197, and a table of vectors, both ways.
+// Trials of AES-128: the examples of FIPS 197, and a table of vectors, both ways; and its substitution against the tables of `field`.
 #![tactic(auto)]
 
 #[cfg(test)]
@@ -37,6 +37,15 @@ mod tests {
             assert_eq!(rt; s.decipher(*v.ten), *v.plain);
             assert_eq!(rt; s.encipher4(*v.plain), *v.four);
             assert_eq!(rt; s.decipher4(*v.four), *v.plain);
+        }
+    }
+
+    // Every byte, by vectors as by the tables, both ways.
+    #[test]
+    fn substitution(rt: HostRuntime) {
+        for b in 0..=255u8 {
+            assert_eq!(rt; aes::sub_bytes([b; 16]), [field::sub_byte(b); 16]);
+            assert_eq!(rt; aes::unsub_bytes([b; 16]), [field::unsub_byte(b); 16]);
         }
     }
 }

@@ -1,7 +1,9 @@
-use Rattle.std.proofs.Common.{rules}
-use Rattle.aes.specs.Cipher.{cipher}
+use Rattle.std.proofs.Common.{◌≡◌, ℕ, ◌<◌, length, get_or, rules}
+use Rattle.aes.proofs.Blocks.{block_from}
 use Rattle.aes.proofs.Schedule.encipher.Goals as goal
 
 pub returns : goal.returns
-unfolding cipher
-returns c = search rules
+returns c =
+    let lx : length c.args.x ≡ 16 = search rules in
+    let hx : (i : ℕ) → i < 16 → get_or c.args.x i 0 < 256 = search rules in
+    c.ended.ensures c.args.x (block_from c.args.x lx hx) c.forward.ensures

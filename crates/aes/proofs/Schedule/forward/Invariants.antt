@@ -1,6 +1,5 @@
-use Rattle.std.proofs.Common.{◌≡◌}
-use Rattle.aes.specs.Cipher.{rounds}
+use Rattle.aes.specs.Between.{Inside}
 use Rattle.aes.proofs.Schedule.forward.Given as goal
 
-abbrev pub invariant-loop-key : goal.invariant-loop-key
-invariant-loop-key l = l.s ≡ rounds l.self.keys l.key-index l.initial.s
+abbrev pub invariant-loop-i : goal.invariant-loop-i
+invariant-loop-i l = Inside l.self.keys l.i l.fn.x l.s

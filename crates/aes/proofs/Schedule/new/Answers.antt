@@ -1,4 +1,4 @@
-use Rattle.std.proofs.Common.{◌≡◌, ℕ, ◌+◌, ◌<◌, length, get_or, sym, arith, rules}
+use Rattle.std.proofs.Common.{◌≡◌, ℕ, ◌+◌, ◌<◌, [], length, get_or, sym, arith, rules}
 use Rattle.aes.proofs.Blocks.{block_from, block_at}
 use Rattle.aes.proofs.Words.{key_first}
 use Rattle.aes.proofs.Schedules.{same_keys, set_key, placed_none, placed_more, next_is, power_none, power_more, is_schedule}
@@ -28,7 +28,7 @@ loop-i-preserved c =
 pub invariant_of-result : goal.invariant_of-result
 invariant_of-result c =
     let s = c.loop-i.invariant.0 in
-    record { count = s.count; sizes = λ i h. (s.each i h).long; bytes = λ i h j l. block_at _ (s.each i h) j }
+    record { count = s.count; sizes = λ i h. (s.each i h).long; bytes = λ i h j l. block_at _ (s.each i h) j; towers = c.map-tower.ensures.items.long; entered = λ i h. let m = (c.map-tower.ensures.items.at i [] [] (omega (arith, s.count))).2 in search rules; backs = c.map-back.ensures.items.long; unmixed = λ i h. let m = (c.map-back.ensures.items.at i [] [] (omega (arith, s.count))).2 in search rules }
 
 pub returns : goal.returns
 returns c = is_schedule c.args.key c.loop-i.keys c.loop-i.invariant.0.count (λ i h. c.loop-i.invariant.3 i (omega arith))
