@@ -1,1 +1,4 @@
 pub mod Pushes
+pub mod Lawful
+pub mod Settling
+mod ByX

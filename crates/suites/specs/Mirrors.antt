@@ -7,6 +7,8 @@ use Rattle.poet.specs.Functions.{Permutes, Lawful}
 use Rattle.poet.proofs.Xors.{bytes_from, bytes_at}
 use Rattle.suites.specs.Numbers.{big_endian}
 use Rattle.suites.specs.Mirror.{mirror}
+use Rattle.suites.specs.Filling.{filled}
+use Rattle.suites.specs.Fillings.{filled_bytes}
 use Rattle.suites.specs.Chains.{chained_block}
 use Rattle.suites.specs.Endian.{big_endian_block}
 
@@ -23,5 +25,5 @@ mirror_lawful key k = record {
   permutes = reversal;
   chain_block = λ b p. p;
   num_block = λ n l. big_endian_block n;
-  dig_block = λ h b. chained_block reverse (λ x. x) reverse_block (λ x p. p) (big_endian 1) (big_endian 1) (big_endian_block 1) (big_endian_block 1) h b;
+  dig_block = λ h b. chained_block reverse (λ x. x) reverse_block (λ x p. p) (big_endian 1) (big_endian 1) (big_endian_block 1) (big_endian_block 1) (filled h) (filled_bytes h b);
 }

@@ -1,15 +1,18 @@
 // The listed suites, told by their numbers.
 ghost use Rattle.std.specs.Prelude.{◌≡◌};
-ghost use Rattle.suites.specs.Listed.{listed};
+ghost use Rattle.suites.specs.Listed.{ListedLaw, listed};
 
 use crate::mirror::Mirror;
 use crate::shaft::Shaft;
+use crate::submission::{Submission4, Submission10};
 use fault::kinds::{KeyFault, Placed};
 use suite::Suite;
 
 #[derive(Debug, PartialEq, Eq, Clone, Copy)]
 pub enum Listed {
     Shaft,
+    Submission4,
+    Submission10,
     Mirror,
 }
 
@@ -21,6 +24,8 @@ impl TryFrom<u8> for Listed {
     fn try_from(number: u8) -> Result<Listed, Placed<KeyFault>> {
         match number {
             Shaft::NUMBER => Ok(Listed::Shaft),
+            Submission4::NUMBER => Ok(Listed::Submission4),
+            Submission10::NUMBER => Ok(Listed::Submission10),
             Mirror::NUMBER => Ok(Listed::Mirror),
             _ => Err(Placed {
                 fault: KeyFault::Suite,
@@ -28,4 +33,11 @@ impl TryFrom<u8> for Listed {
             }),
         }
     }
+}
+
+// Every listed suite is lawful.
+pub fn listed_stands() -> u8
+    ensures { ListedLaw }
+{
+    0
 }

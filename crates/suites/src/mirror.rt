@@ -4,6 +4,7 @@ ghost use Rattle.suites.specs.Mirror.{mirror};
 ghost use Rattle.suites.specs.Mirrors.{reversal, mirror_lawful};
 
 use crate::chained::Chained;
+use crate::filling::WholeStays;
 use crate::numbers::big_endian;
 use suite::{ChainingHash, Keyed, Permutation, Suite};
 
@@ -48,7 +49,7 @@ impl Suite for Mirror {
 
     type ChainingHash = Identity;
 
-    type HeaderDigest = Chained<Reversal, Identity>;
+    type HeaderDigest = Chained<Reversal, Identity, WholeStays>;
 
     ghost NUMBER = { 4 };
 
@@ -62,7 +63,9 @@ impl Suite for Mirror {
         big_endian(n)
     }
 
-    fn set_up(_key: [u8; 16]) -> Keyed<Reversal, Identity, Chained<Reversal, Identity>> {
+    fn set_up(
+        _key: [u8; 16],
+    ) -> Keyed<Reversal, Identity, Chained<Reversal, Identity, WholeStays>> {
         let digest = Chained::new(Reversal, Identity, big_endian(1));
         Keyed {
             permutation: Reversal,

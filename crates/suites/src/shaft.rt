@@ -1,52 +1,13 @@
 // The shaft suite, number 1: AES-128 under two keys that come from the delivered one.
-ghost use Rattle.aes.specs.Cipher.{cipher, inv_cipher};
-ghost use Rattle.aes.specs.Expansion.{schedule};
 ghost use Rattle.suites.specs.Shaft.{shaft};
-ghost use Rattle.std.specs.Prelude.{◌≡◌};
-ghost use Rattle.aes.proofs.Schedules.{held};
-ghost use Rattle.aes.proofs.Undone.{cipher_permutes};
 ghost use Rattle.suites.specs.Shafts.{shaft_lawful};
 
 use crate::chained::Chained;
+use crate::ciphers::Aes128;
+use crate::filling::WholeStays;
+use crate::keyed;
 use crate::numbers::big_endian;
-use aes::Schedule;
-use suite::{ChainingHash, Keyed, Permutation, Suite};
-
-// AES-128 under one key: its round keys.
-#[derive(Drop)]
-pub struct Aes128(Schedule);
-
-impl Aes128 {
-    fn under(key: [u8; 16]) -> Aes128
-        ensures { result.0.keys ≡ schedule key }
-    {
-        Aes128(Schedule::new(key))
-    }
-}
-
-impl Permutation for Aes128 {
-    ghost enc = { λ a. cipher a.0.keys };
-
-    ghost dec = { λ a. inv_cipher a.0.keys };
-
-    ghost permutes = { λ k. cipher_permutes k.0.keys (held k.0) };
-
-    fn encrypt(&self, x: [u8; 16]) -> [u8; 16] {
-        self.0.encipher(x)
-    }
-
-    fn decrypt(&self, x: [u8; 16]) -> [u8; 16] {
-        self.0.decipher(x)
-    }
-}
-
-impl ChainingHash for Aes128 {
-    ghost chain = { λ a. cipher a.0.keys };
-
-    fn hash(&self, x: [u8; 16]) -> [u8; 16] {
-        self.0.encipher(x)
-    }
-}
+use suite::{Keyed, Suite};
 
 pub struct Shaft;
 
@@ -55,7 +16,7 @@ impl Suite for Shaft {
 
     type ChainingHash = Aes128;
 
-    type HeaderDigest = Chained<Aes128, Aes128>;
+    type HeaderDigest = Chained<Aes128, Aes128, WholeStays>;
 
     ghost NUMBER = { 1 };
 
@@ -69,16 +30,25 @@ impl Suite for Shaft {
         big_endian(n)
     }
 
-    // The digest has round keys of its own, as it is ended before the other parts are.
-    fn set_up(key: [u8; 16]) -> Keyed<Aes128, Aes128, Chained<Aes128, Aes128>> {
-        let delivered = Schedule::new(key);
-        let k = delivered.encipher(big_endian(1));
-        let kf = delivered.encipher(big_endian(2));
-        let digest = Chained::new(Aes128::under(k), Aes128::under(kf), big_endian(1));
-        Keyed {
-            permutation: Aes128::under(k),
-            hash: Aes128::under(kf),
-            digest,
-        }
+    fn forth(
+        permutation: &Aes128,
+        hash: &Aes128,
+        x: [u8; 16],
+        y: [u8; 16],
+    ) -> ([u8; 16], [u8; 16], [u8; 16]) {
+        aes::encipher_three(&permutation.0, &hash.0, x, y)
+    }
+
+    fn back(
+        permutation: &Aes128,
+        hash: &Aes128,
+        x: [u8; 16],
+        y: [u8; 16],
+    ) -> ([u8; 16], [u8; 16], [u8; 16]) {
+        aes::decipher_three(&permutation.0, &hash.0, x, y)
+    }
+
+    fn set_up(key: [u8; 16]) -> Keyed<Aes128, Aes128, Chained<Aes128, Aes128, WholeStays>> {
+        keyed::set_up::<Aes128, WholeStays>(key)
     }
 }
