@@ -11,7 +11,6 @@ use Rattle.session.proofs.Bytewise.{zeroed}
 use Rattle.sheet.specs.Entries.{Item, sheet_of}
 use Rattle.sheet.specs.Calls.{Tested}
 use Rattle.sheet.proofs.Decoding.{unique}
-use Rattle.delivery.specs.Told.{OpeningUnder}
 use Rattle.delivery.specs.Sheets.{SheetOpened, SheetBy, SheetUnder, lifted, open_checks}
 
 never : {A B G : Type 0} (a : A) (b : B) → ◌≡◌ {A = Result A B} (Ok a) (Err b) → G
@@ -52,10 +51,8 @@ module _ (key H C T o m : List ℕ) (n len : ℕ) where
     e,
   )
 
-  pub accepted : (u : Option (List ℕ → Functions)) (k j : ℕ) → j ≡ len → OpeningUnder u n key H C T o m (Ok len) → Tested (take j m) (Ok k) → SheetUnder u n key H C T o m (Ok k)
-  accepted None k j e s t = never len _ s.0
-  accepted (Some under) k j e s t =
-      by_accepted (open_checks key H C T o) (under key) k s (subst (λ (i : ℕ). Tested (take i m) (Ok k)) (e ∙ (by_len (open_checks key H C T o) (under key) s).0) t)
+  pub accepted : (f : Functions) (c : Option (Placed SessionFault)) (k j : ℕ) → j ≡ len → OpeningBy c f H C T o m (Ok len) → Tested (take j m) (Ok k) → SheetBy c f H C T o m (Ok k)
+  accepted f c k j e s t = by_accepted c f k s (subst (λ (i : ℕ). Tested (take i m) (Ok k)) (e ∙ (by_len c f s).0) t)
 
   by_broken : (c : Option (Placed SessionFault)) (f : Functions) (z : List ℕ) (x : Placed SheetFault) → OpeningBy c f H C T o m (Ok len) → Tested (take (length C) m) (Err x) → z ≡ replicate (length C) 0 ++ drop (length C) m → SheetBy c f H C T o z (Err x)
   by_broken (Some e) f z x s t q = never len e s.0
@@ -65,13 +62,12 @@ module _ (key H C T o m : List ℕ) (n len : ℕ) where
     zeros = q ∙ ap (λ (r : List ℕ). replicate (length C) 0 ++ r) s.1.rest;
   }
 
-  pub broken : (u : Option (List ℕ → Functions)) (w : List ℕ) (x : Placed SheetFault) (j : ℕ) → j ≡ len → length m ≡ length o → OpeningUnder u n key H C T o m (Ok len) → Tested (take j m) (Err x) → w ≡ replicate (length (take j m)) 0 → SheetUnder u n key H C T o (w ++ drop j m) (Err x)
-  broken None w x j e l s t q = never len _ s.0
-  broken (Some under) w x j e l s t q =
-      let b = by_len (open_checks key H C T o) (under key) s in
+  pub broken : (f : Functions) (w : List ℕ) (x : Placed SheetFault) (j : ℕ) → j ≡ len → length m ≡ length o → OpeningBy (open_checks key H C T o) f H C T o m (Ok len) → Tested (take j m) (Err x) → w ≡ replicate (length (take j m)) 0 → SheetBy (open_checks key H C T o) f H C T o (w ++ drop j m) (Err x)
+  broken f w x j e l s t q =
+      let b = by_len (open_checks key H C T o) f s in
       let k : j ≡ length C = e ∙ b.0 in
       let r = room key H C T o b.1 in
-      by_broken (open_checks key H C T o) (under key) (w ++ drop j m) x s (subst (λ (i : ℕ). Tested (take i m) (Err x)) k t) (zeroed w m (length C) j k (omega arith) q)
+      by_broken (open_checks key H C T o) f (w ++ drop j m) x s (subst (λ (i : ℕ). Tested (take i m) (Err x)) k t) (zeroed w m (length C) j k (omega arith) q)
 
 -- a refusal of the opening
 same_fault : (e : Placed SessionFault) (x : Placed SheetFault) → x.fault ≡ (lifted e).fault → x.place ≡ e.place → x ≡ lifted e
@@ -81,17 +77,13 @@ by_refused : (c : Option (Placed SessionFault)) (f : Functions) (H C T o m : Lis
 by_refused (Some d) f H C T o m e s = let q : e ≡ d = let h = s.0 in cc in (ap (λ (x : Placed SessionFault). Err (lifted x)) q, s.1)
 by_refused None f H C T o m e s = record { none = λ fs g. s.none (sheet_of fs) g.seals; why = inl (ap lifted s.fault, s.none); zeros = s.zeros }
 
-refused : (u : Option (List ℕ → Functions)) (n : ℕ) (key H C T o m : List ℕ) (e : Placed SessionFault) → OpeningUnder u n key H C T o m (Err e) → SheetUnder u n key H C T o m (Err (lifted e))
-refused None n key H C T o m e s = (ap (λ (x : Placed SessionFault). Err (lifted x)) (let h = s.0 in cc), s.1)
-refused (Some under) n key H C T o m e s = by_refused (open_checks key H C T o) (under key) H C T o m e s
-
 -- ... that `?` hands on
-pub handed_on : (u : Option (List ℕ → Functions)) (n : ℕ) (key H C T o m : List ℕ) (e : Placed SessionFault) (r : Result ℕ (Placed SheetFault)) → IsErrAnd r (λ x. (x.fault ≡ (lifted e).fault) × (x.place ≡ e.place)) → OpeningUnder u n key H C T o m (Err e) → SheetUnder u n key H C T o m r
-handed_on u n key H C T o m e (Ok k) b s = absurd b
-handed_on u n key H C T o m e (Err x) b s = subst (λ (y : Placed SheetFault). SheetUnder u n key H C T o m (Err y)) (sym (same_fault e x b.0 b.1)) (refused u n key H C T o m e s)
+pub handed_on : (c : Option (Placed SessionFault)) (f : Functions) (H C T o m : List ℕ) (e : Placed SessionFault) (r : Result ℕ (Placed SheetFault)) → IsErrAnd r (λ x. (x.fault ≡ (lifted e).fault) × (x.place ≡ e.place)) → OpeningBy c f H C T o m (Err e) → SheetBy c f H C T o m r
+handed_on c f H C T o m e (Ok k) b s = absurd b
+handed_on c f H C T o m e (Err x) b s = subst (λ (y : Placed SheetFault). SheetBy c f H C T o m (Err y)) (sym (same_fault e x b.0 b.1)) (by_refused c f H C T o m e s)
 
 -- What an opening that answered a count has accepted.
-by_count : (c : Option (Placed SessionFault)) (f : Functions) (H C T o m : List ℕ) (k : ℕ) → SheetBy c f H C T o m (Ok k) → (c ≡ None) × ((es : List Item) × SheetOpened f H C T o m es)
+pub by_count : (c : Option (Placed SessionFault)) (f : Functions) (H C T o m : List ℕ) (k : ℕ) → SheetBy c f H C T o m (Ok k) → (c ≡ None) × ((es : List Item) × SheetOpened f H C T o m es)
 by_count (Some e) f H C T o m k s = never k _ s.0
 by_count None f H C T o m k s = (refl, (s.0, s.1))
 

@@ -10,6 +10,8 @@ use Rattle.poet.specs.Seal.{Seals}
 use Rattle.session.specs.Calls.{checks, tag_check}
 use Rattle.sheet.specs.Entries.{Item, AllGood, sheet_of}
 use Rattle.sheet.specs.Calls.{Broken}
+use Rattle.suites.specs.declared.listed.Listed.{Listed}
+use Rattle.suites.specs.Listed.{listed}
 use Rattle.delivery.specs.Told.{suite_of, not_listed}
 use Rattle.wire.specs.Wire.{Parts}
 
@@ -49,6 +51,11 @@ SheetBy None f H C T o o' r = SheetJudged f H C T o o' r
 -- the checks of opening, in their order
 abbrev pub open_checks : (key H C T o : List ℕ) → Option (Placed SessionFault)
 open_checks key H C T o = checks (length key) (length H) (length C) (length o) (tag_check (length T) 0)
+
+-- the suite with the number n, or its refusal
+abbrev pub ToldSuite : (n : ℕ) → Result Listed (Placed SheetFault) → Type 0
+ToldSuite n (Ok s) = listed n ≡ Ok s
+ToldSuite n (Err e) = (suite_of n ≡ None) × (e ≡ lifted (not_listed n))
 
 -- opening under the suite with the number n
 abbrev pub SheetUnder : Option (List ℕ → Functions) → (n : ℕ) (key H C T o o' : List ℕ) → Result ℕ (Placed SheetFault) → Type 0

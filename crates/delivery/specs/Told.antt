@@ -1,20 +1,18 @@
--- The listed suites, and the calls that are told one by its number.
-use Rattle.std.specs.Prelude.{◌≡◌, ℕ, cond, List, Some, None, Err, Option, Result, ◌==◌}
+-- The calls that are told a suite by its number.
+use Rattle.std.specs.Prelude.{◌≡◌, ℕ, List, Some, None, Err, Option, Result}
+use Rattle.std.specs.Option.{option_map}
+use Rattle.std.specs.Result.{result_ok}
 use Rattle.fault.specs.declared.kinds.KeyFault.TheVariants.{Suite}
 use Rattle.fault.specs.declared.kinds.SessionFault.{SessionFault}
 use Rattle.fault.specs.declared.kinds.SessionFault.TheVariants.{Key}
 use Rattle.fault.specs.declared.kinds.Placed.{Placed}
 use Rattle.poet.specs.Functions.{Functions}
 use Rattle.session.specs.Calls.{SealCall, OpenCall}
-use Rattle.suites.specs.Mirror.{mirror}
-use Rattle.suites.specs.Shaft.{shaft}
+use Rattle.suites.specs.Listed.{listed, functions_of}
 
--- the functions of the suite with a number, under each key
+-- the functions of the suite with the number n, under each key, if it is listed
 abbrev pub suite_of : ℕ → Option (List ℕ → Functions)
-suite_of n =
-    cond (n == 1) (Some shaft) (
-    cond (n == 4) (Some mirror)
-    None)
+suite_of n = option_map functions_of (result_ok (listed n))
 
 -- the refusal of a number that is not listed
 abbrev pub not_listed : ℕ → Placed SessionFault

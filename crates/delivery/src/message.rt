@@ -6,6 +6,7 @@ use fault::kinds::{Placed, SessionFault};
 use suites::listed::Listed;
 use suites::mirror::Mirror;
 use suites::shaft::Shaft;
+use suites::submission::{Submission4, Submission10};
 
 // Kept with a parameter for each buffer: every one has a refusal of its own, and a struct of them would be made for the call alone.
 pub fn seal(
@@ -20,6 +21,10 @@ pub fn seal(
 {
     match Listed::try_from(suite)? {
         Listed::Shaft => session::whole::seal::<Shaft>(key, header, message, out, tag),
+        Listed::Submission4 => session::whole::seal::<Submission4>(key, header, message, out, tag),
+        Listed::Submission10 => session::whole::seal::<Submission10>(
+            key, header, message, out, tag,
+        ),
         Listed::Mirror => session::whole::seal::<Mirror>(key, header, message, out, tag),
     }
 }
@@ -36,6 +41,12 @@ pub fn open(
 {
     match Listed::try_from(suite)? {
         Listed::Shaft => session::whole::open::<Shaft>(key, header, ciphertext, tag, out),
+        Listed::Submission4 => session::whole::open::<Submission4>(
+            key, header, ciphertext, tag, out,
+        ),
+        Listed::Submission10 => session::whole::open::<Submission10>(
+            key, header, ciphertext, tag, out,
+        ),
         Listed::Mirror => session::whole::open::<Mirror>(key, header, ciphertext, tag, out),
     }
 }

@@ -5,7 +5,8 @@ use Rattle.poet.specs.Seal.{Limits, Seals}
 use Rattle.poet.specs.Rows.{takes, gives, next, rows, last, cut, start, size, zed, sealing, cipher, tag}
 use Rattle.poet.proofs.Xors.{bytes_nil, bytes_replicate}
 use Rattle.poet.proofs.Computing.{computing_law}
-use Rattle.suites.specs.Chained.{filled, chain_x, chain_y, chained}
+use Rattle.suites.specs.Filling.{padded, filled}
+use Rattle.suites.specs.Chained.{chain_x, chain_y, chained}
 use Rattle.suites.specs.Mirror.{mirror}
 use Rattle.suites.specs.Mirrors.{mirror_lawful}
 use Rattle.session.specs.declared.script.Answer.TheVariants.{Body}
@@ -34,7 +35,7 @@ body_figure : (held brought : ℕ) → BodyFigure held brought (given_of (held +
 body_figure held brought n s h b free = ap (λ o. Body (answered o (given_of (held_of n + length s.bytes.now)))) free ∙ ap₂ (λ (x y : ℕ). Body (Ok (given_of (x + y)))) h b
 
 pub figures : Figures
-unfolding ◌⊕◌ filled chain_x chain_y chained takes gives next rows last cut start size zed sealing row_of
+unfolding ◌⊕◌ padded filled chain_x chain_y chained takes gives next rows last cut start size zed sealing row_of
 figures = record {
   digest = λ key. refl;
   one_byte = λ key. computed key _ _ _ (limits _ (bytes_replicate 1 0x41 (lit< tt)) tt tt) refl refl;

@@ -3,6 +3,9 @@ use Rattle.std.proofs.Common.{◌≡◌, ℕ, Bool, true, false, cond, eqb, ltb,
 use Rattle.std.proofs.lemmas.List.{take_at}
 use Rattle.std.proofs.lemmas.Bool.Decides.{nat_tests}
 use Rattle.std.specs.declared.alloc.Global.{Global}
+use Rattle.std.specs.Option.{option_map}
+use Rattle.std.specs.Result.{result_ok}
+use Rattle.fault.specs.declared.kinds.KeyFault.{KeyFault}
 use Rattle.fault.specs.declared.kinds.SessionFault.{SessionFault}
 use Rattle.fault.specs.declared.kinds.SessionFault.TheVariants.{Empty}
 use Rattle.fault.specs.declared.kinds.SheetFault.{SheetFault}
@@ -13,10 +16,9 @@ use Rattle.poet.specs.Functions.{Functions, Lawful}
 use Rattle.poet.proofs.Xors.{bytes_take, bytes_drop}
 use Rattle.poet.proofs.Computing.{computing_law}
 use Rattle.poet.proofs.Opening.{cipher_length}
-use Rattle.suites.specs.Mirror.{mirror}
-use Rattle.suites.specs.Shaft.{shaft}
-use Rattle.suites.specs.Mirrors.{mirror_lawful}
-use Rattle.suites.specs.Shafts.{shaft_lawful}
+use Rattle.suites.specs.declared.listed.Listed.{Listed as ListedSuite}
+use Rattle.suites.specs.Listed.{listed as suite_listed, functions_of}
+use Rattle.suites.proofs.Lawful.{listed_lawful}
 use Rattle.sheet.specs.Entries.{Item, AllGood, sheet_of}
 use Rattle.delivery.specs.Told.{suite_of}
 use Rattle.delivery.specs.Sheets.{SheetSeals, SheetBy, SheetUnder, open_checks}
@@ -28,14 +30,13 @@ use Rattle.fault.specs.declared.halt.Halt.TheVariants.{Refused, Memory}
 use Rattle.report.specs.Lists.{list_of, Made, SheetListed}
 use Rattle.report.specs.Report.{Delivers, Listed, Opened, raised}
 
--- the listed suites are lawful
-lawful_by : (a b : Bool) (under : List ℕ → Functions) (key : List ℕ) → Block key → cond a (Some shaft) (cond b (Some mirror) None) ≡ Some under → Lawful (under key)
-lawful_by true b under key k e = let q : shaft ≡ under = cc in subst (λ (u : List ℕ → Functions). Lawful (u key)) q (shaft_lawful key k)
-lawful_by false true under key k e = let q : mirror ≡ under = cc in subst (λ (u : List ℕ → Functions). Lawful (u key)) q (mirror_lawful key k)
-lawful_by false false under key k e = let z : ◌≡◌ {A = ℕ} 0 1 = cc in absurd (omega arith)
+-- a suite that is told by its number is lawful
+lawful_by : (r : Result ListedSuite (Placed KeyFault)) (under : List ℕ → Functions) (key : List ℕ) → Block key → option_map functions_of (result_ok r) ≡ Some under → Lawful (under key)
+lawful_by (Ok s) under key k e = let q : functions_of s ≡ under = cc in subst (λ (u : List ℕ → Functions). Lawful (u key)) q (listed_lawful s key k)
+lawful_by (Err x) under key k e = let z : ◌≡◌ {A = ℕ} 0 1 = cc in absurd (omega arith)
 
 lawful : (n : ℕ) (under : List ℕ → Functions) (key : List ℕ) → Block key → suite_of n ≡ Some under → Lawful (under key)
-lawful n under key k e = lawful_by (eqb n 1) (eqb n 4) under key k e
+lawful n under key k e = lawful_by (suite_listed n) under key k e
 
 -- of the checks only that of an empty body can fail within the limits
 module _ (p : Parts) (l : Limits p) (o : List ℕ) (lo : length o ≡ length p.ciphertext) where
