@@ -13,6 +13,7 @@ use suite::Suite;
 use suites::listed::Listed;
 use suites::mirror::Mirror;
 use suites::shaft::Shaft;
+use suites::submission::{Submission4, Submission10};
 use text::{Body, Fault, Piece, Written};
 
 fn main(rt: HostRuntime) -> anyhow::Result<()> {
@@ -35,6 +36,8 @@ fn main(rt: HostRuntime) -> anyhow::Result<()> {
 fn run(rt: &HostRuntime, written: &Written) -> anyhow::Result<()> {
     match Listed::try_from(written.suite) {
         Ok(Listed::Shaft) => under::<Shaft>(rt, written),
+        Ok(Listed::Submission4) => under::<Submission4>(rt, written),
+        Ok(Listed::Submission10) => under::<Submission10>(rt, written),
         Ok(Listed::Mirror) => under::<Mirror>(rt, written),
         Err(refused) => refuse(rt, refused),
     }

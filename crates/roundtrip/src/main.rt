@@ -18,6 +18,8 @@ fn main(rt: HostRuntime) -> io::Result<()> {
     println!(rt; "label      {}", Hex(LABEL))?;
     println!(rt; "message    {}", Hex(MESSAGE))?;
     trip(&rt, 1)?;
+    trip(&rt, 2)?;
+    trip(&rt, 3)?;
     trip(&rt, 4)
 }
 

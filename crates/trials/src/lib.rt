@@ -3,7 +3,12 @@
 
 pub mod caller;
 #[cfg(test)]
+mod chains;
+#[cfg(test)]
 mod figures;
+pub mod older;
+#[cfg(test)]
+mod published;
 #[cfg(test)]
 mod refusals;
 #[cfg(test)]
