@@ -1,5 +1,6 @@
 // Opening of a delivered sheet: the message is opened under a suite, and every entry of it is tested.
-ghost use Rattle.delivery.specs.Sheets.{SheetBy, SheetOf, ToldSuite, open_checks};
+ghost use Rattle.delivery.specs.Sheets.{SheetBy, SheetOf, ToldSuite};
+ghost use Rattle.session.specs.Calls.{open_checks};
 ghost use Rattle.wire.specs.Wire.{parts_of};
 
 use fault::kinds::{Placed, SessionFault, SheetFault};

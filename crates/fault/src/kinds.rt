@@ -3,6 +3,7 @@ ghost use Rattle.std.specs.Prelude.{◌≡◌};
 ghost use Rattle.fault.specs.declared.kinds.ConsoleFault.TheVariants.{Sheet};
 ghost use Rattle.fault.specs.declared.kinds.SessionFault.TheVariants.{Key};
 ghost use Rattle.fault.specs.declared.kinds.SheetFault.TheVariants.{Session};
+ghost use Rattle.fault.specs.Refusals.{HandedOn, console_faults, key_faults, session_faults, sheet_faults};
 
 #[derive(Debug, PartialEq, Eq, Clone, Copy)]
 pub enum Layer {
@@ -69,9 +70,10 @@ pub struct Placed<F> {
     pub place: usize,
 }
 
-// Kept for each pair of layers: one impl over all of them would overlap with std's `From<T> for T`.
+// A lower layer's fault is handed on with its number, layer and place. An impl for each pair of layers: one over all of them would overlap
+// with std's `From<T> for T`.
 impl From<Placed<KeyFault>> for Placed<SessionFault> {
-    ghost from_gives = { λ e r. (r.fault ≡ Key e.fault) × (r.place ≡ e.place) };
+    ghost from_gives = { HandedOn key_faults session_faults Key };
 
     fn from(e: Placed<KeyFault>) -> Placed<SessionFault> {
         Placed {
@@ -82,7 +84,7 @@ impl From<Placed<KeyFault>> for Placed<SessionFault> {
 }
 
 impl From<Placed<SessionFault>> for Placed<SheetFault> {
-    ghost from_gives = { λ e r. (r.fault ≡ Session e.fault) × (r.place ≡ e.place) };
+    ghost from_gives = { HandedOn session_faults sheet_faults Session };
 
     fn from(e: Placed<SessionFault>) -> Placed<SheetFault> {
         Placed {
@@ -93,7 +95,7 @@ impl From<Placed<SessionFault>> for Placed<SheetFault> {
 }
 
 impl From<Placed<SheetFault>> for Placed<ConsoleFault> {
-    ghost from_gives = { λ e r. (r.fault ≡ Sheet e.fault) × (r.place ≡ e.place) };
+    ghost from_gives = { HandedOn sheet_faults console_faults Sheet };
 
     fn from(e: Placed<SheetFault>) -> Placed<ConsoleFault> {
         Placed {

@@ -3,13 +3,20 @@ use Rattle.std.specs.Prelude.{◌≡◌, ℕ, suc, ◌+◌, ◌-◌, ◌*◌, �
 use Rattle.poet.specs.Bytes.{Bytes, block, ◌⊕◌}
 use Rattle.poet.specs.Functions.{Functions}
 
+-- the most bytes that a header has, and a message
+abbrev pub header_most : ℕ
+header_most = 65536
+
+abbrev pub body_most : ℕ
+body_most = 1048576
+
 -- A header has 0 to 65,536 bytes, and a message 1 to 1,048,576. Nothing else is sealed.
 pub record Limits (H M : List ℕ) : Type 0 where
   pub header_bytes : Bytes H
-  pub header_most : length H ≤ 65536
+  pub header_most : length H ≤ header_most
   pub bytes : Bytes M
   pub some : 1 ≤ length M
-  pub most : length M ≤ 1048576
+  pub most : length M ≤ body_most
 
 -- The first n rows, which tie the first n blocks of a message M and of a ciphertext C to one another under the header H.
 -- Sealing goes through them from M to C, and opening from C to M.

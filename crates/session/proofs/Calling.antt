@@ -3,6 +3,7 @@ use Rattle.std.proofs.Common.{◌≡◌, ℕ, ◌+◌, ◌≤◌, false, eqb, lt
 use Rattle.fault.specs.declared.kinds.KeyFault.{KeyFault}
 use Rattle.fault.specs.declared.kinds.SessionFault.{SessionFault}
 use Rattle.fault.specs.declared.kinds.Placed.{Placed}
+use Rattle.fault.specs.Refusals.{Refusal}
 use Rattle.poet.specs.Functions.{Functions}
 use Rattle.suite.specs.declared.Suite as suite
 use Rattle.suite.specs.declared.Permutation as permutation
@@ -13,11 +14,11 @@ use Rattle.session.specs.declared.rows.Way as way
 use Rattle.session.specs.declared.types.Session.{Session}
 use Rattle.session.specs.Calls.{FillBy}
 use Rattle.session.specs.Runs.{Run, headed}
-use Rattle.session.specs.Sessions.{HeadingAt, header_check, HeaderBy, body_check, held, writes, BodyTaken, BodyBy, empty_check, SealFinished, SealedBy, end_check, OpenJudged, OpenedBy}
+use Rattle.session.specs.Sessions.{HeadingAt, header_check, HeaderBy, body_check, held, writes, BodyTaken, BodyBy, sealing_check, SealFinished, SealedBy, opening_check, OpenJudged, OpenedBy}
 
-pub fill_ok : (o : Option (Placed KeyFault)) (key b b' : List ℕ) → FillBy o key b b' (Ok tt) → (o ≡ None) × (b' ≡ key)
+pub fill_ok : (o : Option (Refusal KeyFault)) (key b b' : List ℕ) → FillBy o key b b' (Ok tt) → (o ≡ None) × (b' ≡ key)
 fill_ok None key b b' f = (refl, f.1)
-fill_ok (Some e) key b b' f = absurd cc
+fill_ok (Some e) key b b' f = absurd f.0
 
 pub header_ok : {A B C D : Type 0} {u : suite.Ghosts A B C D} {p : permutation.Ghosts B} {h : hash.Ghosts C} {d : digest.Ghosts D} (R : Run) (P : List ℕ) (s s' : Heading A B C D u p h d) (r : Result (Unit {0}) (Placed SessionFault))
     → length R.header + length P ≤ 65536 → HeaderBy (header_check (length R.header) (length P)) R P s s' r → (r ≡ Ok tt) × HeadingAt (headed R P) s'
@@ -32,12 +33,12 @@ body_ok R P o o' s s' r l m c =
     let d : ltb (length o) (writes (held R + length P)) ≡ false = le-ltb (length o) (writes (held R + length P)) m in
     rw (e, d) at c
 
-pub seal_ok : (f : Functions) (R : Run) (l t : List ℕ) (r : Result ℕ (Placed SessionFault)) → 1 ≤ length R.body → SealedBy (empty_check (length R.body)) f R l t r → SealFinished f R l t r
+pub seal_ok : (f : Functions) (R : Run) (l t : List ℕ) (r : Result ℕ (Placed SessionFault)) → 1 ≤ length R.body → SealedBy (sealing_check R) f R l t r → SealFinished f R l t r
 seal_ok f R l t r n c =
     let e : eqb (length R.body) 0 ≡ false = ne_eqb (length R.body) 0 (λ z. omega arith) in
     rw e at c
 
-pub open_ok : (f : Functions) (R : Run) (T l : List ℕ) (r : Result ℕ (Placed SessionFault)) → 1 ≤ length R.body → length T ≡ 16 → OpenedBy (end_check (length R.body) (length T)) f R T l r → OpenJudged f R T l r
+pub open_ok : (f : Functions) (R : Run) (T l : List ℕ) (r : Result ℕ (Placed SessionFault)) → 1 ≤ length R.body → length T ≡ 16 → OpenedBy (opening_check R T) f R T l r → OpenJudged f R T l r
 open_ok f R T l r n k c =
     let e : eqb (length R.body) 0 ≡ false = ne_eqb (length R.body) 0 (λ z. omega arith) in
     rw (e, k) at c

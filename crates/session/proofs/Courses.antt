@@ -5,6 +5,7 @@ use Rattle.std.proofs.lemmas.Result.{IfOk-weaker}
 use Rattle.std.specs.declared.alloc.AllocError.{AllocError}
 use Rattle.fault.specs.declared.kinds.SessionFault.{SessionFault}
 use Rattle.fault.specs.declared.kinds.Placed.{Placed}
+use Rattle.fault.specs.Refusals.{Refusal}
 use Rattle.poet.specs.Bytes.{Block}
 use Rattle.poet.specs.Functions.{Functions, Lawful}
 use Rattle.suite.specs.declared.Suite as suite
@@ -23,7 +24,7 @@ use Rattle.session.specs.declared.types.Heading.{Heading}
 use Rattle.session.specs.Directions.{Direction, sealing, opening}
 use Rattle.session.specs.Runs.{Run, fresh, finished}
 use Rattle.session.specs.Promise.{Blocks, AgreesWith}
-use Rattle.session.specs.Sessions.{HeadingAt, SessionAt, held, writes, empty_check, end_check, SealedBy, OpenedBy}
+use Rattle.session.specs.Sessions.{HeadingAt, SessionAt, held, writes, sealing_check, opening_check, SealedBy, OpenedBy}
 use Rattle.session.specs.Scripts.{run_of, headers_taken, header_answers, held_of, body_answers}
 use Rattle.session.specs.Playing.{HeaderPlayed, BodyPlayed}
 use Rattle.session.specs.Logs.{FinishKept, last_of}
@@ -44,25 +45,23 @@ last_handed R last o h a z = record {
 }
 
 -- a finish of a sealing: the last bytes belong to the run, and what it promises
-sealed_end : (o : Option (Placed SessionFault)) (f : Functions) (R : Run) (last tag : List ℕ) (r : Result ℕ (Placed SessionFault)) → Lawful f → Blocks sealing f R → HeldBack R → held R ≡ held_of (length R.body) → SealedBy o f R last tag r
+sealed_end : (o : Option (Refusal SessionFault)) (f : Functions) (R : Run) (last tag : List ℕ) (r : Result ℕ (Placed SessionFault)) → Lawful f → Blocks sealing f R → HeldBack R → held R ≡ held_of (length R.body) → SealedBy o f R last tag r
     → Blocks sealing f (finished R (last_of r last)) × SealEnds o f (finished R (last_of r last)) r last tag
 sealed_end None f R last tag r l b o h s =
     subst (λ (i : Result ℕ (Placed SessionFault)). Blocks sealing f (finished R (last_of i last)) × SealEnds None f (finished R (last_of i last)) i last tag) (sym s.answer)
     (s.blocks, (ap Ok h, s.seals, last_handed R last o h (seal_long f l _ _ _ _ s.seals) s.zeros))
-sealed_end (Some e) f R last tag r l b o h s =
-    subst (λ (i : Result ℕ (Placed SessionFault)). Blocks sealing f (finished R (last_of i last)) × SealEnds (Some e) f (finished R (last_of i last)) i last tag) (sym s.0)
-    (subst (Blocks sealing f) (sym (nothing_more R)) b, (refl, s.1, s.2, subst HeldBack (sym (nothing_more R)) o))
+sealed_end (Some e) f R last tag (Ok n) l b o h s = absurd s.0
+sealed_end (Some e) f R last tag (Err x) l b o h s = (subst (Blocks sealing f) (sym (nothing_more R)) b, (s.0, s.1, s.2, subst HeldBack (sym (nothing_more R)) o))
 
 -- the same of an opening
-opened_end : (o : Option (Placed SessionFault)) (f : Functions) (R : Run) (T last : List ℕ) (r : Result ℕ (Placed SessionFault)) → Lawful f → Blocks opening f R → HeldBack R → held R ≡ held_of (length R.body) → OpenedBy o f R T last r
+opened_end : (o : Option (Refusal SessionFault)) (f : Functions) (R : Run) (T last : List ℕ) (r : Result ℕ (Placed SessionFault)) → Lawful f → Blocks opening f R → HeldBack R → held R ≡ held_of (length R.body) → OpenedBy o f R T last r
     → Blocks opening f (finished R (last_of r last)) × OpenEnds o f (finished R (last_of r last)) T r last
 opened_end None f R T last (Ok n) l b o h s =
     subst (λ (i : ℕ). Blocks opening f (finished R (take i last)) × OpenVerdict f (finished R (take i last)) T (Ok i) last) (sym s.0)
     (s.1.blocks, (h, s.1.seals, s.1.only, last_handed R last o h (sym (seal_long f l _ _ _ _ s.1.seals)) s.1.zeros))
 opened_end None f R T last (Err e) l b o h s = (subst (Blocks opening f) (sym (nothing_more R)) b, (s.fault, s.none, s.zeros, subst HeldBack (sym (nothing_more R)) o))
-opened_end (Some e) f R T last r l b o h s =
-    subst (λ (i : Result ℕ (Placed SessionFault)). Blocks opening f (finished R (last_of i last)) × OpenEnds (Some e) f (finished R (last_of i last)) T i last) (sym s.0)
-    (subst (Blocks opening f) (sym (nothing_more R)) b, (refl, s.1, s.2, subst HeldBack (sym (nothing_more R)) o))
+opened_end (Some e) f R T last (Ok n) l b o h s = absurd s.0
+opened_end (Some e) f R T last (Err x) l b o h s = (subst (Blocks opening f) (sym (nothing_more R)) b, (s.0, s.1, s.2, subst HeldBack (sym (nothing_more R)) o))
 
 -- the run once a finish is kept
 finished_run : (key last : List ℕ) (r : Result ℕ (Placed SessionFault)) (p p' : Played) → FinishKept r last p p' → finished (run_of key p) (last_of r last) ≡ run_of key p'
@@ -90,12 +89,12 @@ module _ {A W B C D : Type 0} {u : suite.Ghosts A B C D} {x : permutation.Ghosts
     kept_answers : (key : List ℕ) → SessionAt (run_of key p) s → vec_items p₂.answers ≡ vec_items p.answers ++ body_answers (vec_items p.body) bs ++ Finish r ∷ []
     kept_answers key a = F.answers ∙ ap (λ i. i ++ Finish r ∷ []) (N.answers key a)
 
-    pub sealing_finished : (fin : Bool) (tag : List ℕ) → w.way ≡ sealing → fin ≡ true → ((R : Run) → SessionAt R s₁ → SealedBy (empty_check (length R.body)) (u.under R.key) R last tag r) → SealingPlayed bs fin p p₂ (Sealed last tag) s
+    pub sealing_finished : (fin : Bool) (tag : List ℕ) → w.way ≡ sealing → fin ≡ true → ((R : Run) → SessionAt R s₁ → SealedBy (sealing_check R) (u.under R.key) R last tag r) → SealingPlayed bs fin p p₂ (Sealed last tag) s
     sealing_finished fin tag we fe S = subst (λ (i : Bool). SealingPlayed bs i p p₂ (Sealed last tag) s) (sym fe) λ key a.
         let c = N.at key a in
         let l = L key c.taken.key_block in
         let R = run_of key p₁ in
-        let q = sealed_end (empty_check (length R.body)) (u.under key) R last tag r l (stood we key c) (held_back L R s₁ c) (held_same L R s₁ c) (S R c) in
+        let q = sealed_end (sealing_check R) (u.under key) R last tag r l (stood we key c) (held_back L R s₁ c) (held_same L R s₁ c) (S R c) in
         let run = finished_run key last r p₁ p₂ F in
         let b : Blocks sealing (u.under key) (run_of key p₂) = subst (Blocks sealing (u.under key)) run q.0 in
         record {
@@ -103,15 +102,15 @@ module _ {A W B C D : Type 0} {u : suite.Ghosts A B C D} {x : permutation.Ghosts
           body = ap vec_items F.body ∙ N.body key a;
           blocks = b;
           agrees = agrees sealing (u.under key) l (run_of key p₂) b;
-          finish = (r, last, tag, refl, kept_answers key a, subst (λ (Q : Run). SealEnds (empty_check (length Q.body)) (u.under key) Q r last tag) run q.1);
+          finish = (r, last, tag, refl, kept_answers key a, subst (λ (Q : Run). SealEnds (sealing_check Q) (u.under key) Q r last tag) run q.1);
         }
 
-    pub opening_finished : (o : Option (Bor (List ℕ))) (t : Bor (List ℕ)) → w.way ≡ opening → o ≡ Some t → ((R : Run) → SessionAt R s₁ → OpenedBy (end_check (length R.body) (length t.now)) (u.under R.key) R t.now last r) → OpeningPlayed bs o p p₂ (Opened last) s
+    pub opening_finished : (o : Option (Bor (List ℕ))) (t : Bor (List ℕ)) → w.way ≡ opening → o ≡ Some t → ((R : Run) → SessionAt R s₁ → OpenedBy (opening_check R t.now) (u.under R.key) R t.now last r) → OpeningPlayed bs o p p₂ (Opened last) s
     opening_finished o t we te S = subst (λ (i : Option (Bor (List ℕ))). OpeningPlayed bs i p p₂ (Opened last) s) (sym te) λ key a.
         let c = N.at key a in
         let l = L key c.taken.key_block in
         let R = run_of key p₁ in
-        let q = opened_end (end_check (length R.body) (length t.now)) (u.under key) R t.now last r l (stood we key c) (held_back L R s₁ c) (held_same L R s₁ c) (S R c) in
+        let q = opened_end (opening_check R t.now) (u.under key) R t.now last r l (stood we key c) (held_back L R s₁ c) (held_same L R s₁ c) (S R c) in
         let run = finished_run key last r p₁ p₂ F in
         let b : Blocks opening (u.under key) (run_of key p₂) = subst (Blocks opening (u.under key)) run q.0 in
         record {
@@ -119,7 +118,7 @@ module _ {A W B C D : Type 0} {u : suite.Ghosts A B C D} {x : permutation.Ghosts
           body = ap vec_items F.body ∙ N.body key a;
           blocks = b;
           agrees = agrees opening (u.under key) l (run_of key p₂) b;
-          finish = (r, last, refl, kept_answers key a, subst (λ (Q : Run). OpenEnds (end_check (length Q.body) (length t.now)) (u.under key) Q t.now r last) run q.1);
+          finish = (r, last, refl, kept_answers key a, subst (λ (Q : Run). OpenEnds (opening_check Q t.now) (u.under key) Q t.now r last) run q.1);
         }
 
 -- from new on: p is the empty log, and s the new heading

@@ -4,16 +4,18 @@ use Rattle.std.proofs.lemmas.Bool.{eqb-false}
 use Rattle.fault.specs.declared.kinds.SessionFault.{SessionFault}
 use Rattle.fault.specs.declared.kinds.SessionFault.TheVariants.{Forged, Tag}
 use Rattle.fault.specs.declared.kinds.Placed.{Placed}
+use Rattle.fault.specs.declared.kinds.Layer.TheVariants.{Session as SessionLayer}
+use Rattle.fault.specs.Refusals.{refusal, IsRefusal, session_faults}
 use Rattle.poet.specs.Bytes.{Bytes, Block}
 use Rattle.poet.specs.Functions.{Functions, Lawful}
 use Rattle.poet.specs.Seal.{Limits, Seals}
 use Rattle.poet.specs.Rows.{ends, cipher, tag, opened}
 use Rattle.poet.proofs.Computing.{computing_law}
 use Rattle.poet.proofs.Accepting.{opening_law}
-use Rattle.session.specs.Calls.{answered, tag_check}
+use Rattle.session.specs.Calls.{answered, tag_check, forged}
 use Rattle.session.specs.Directions.{Direction, sealing, opening}
 use Rattle.session.specs.Runs.{Run}
-use Rattle.session.specs.Sessions.{Taken, rows_of, held, SealFinished, OpenFinished, OpenRefused, OpenedBy, end_check}
+use Rattle.session.specs.Sessions.{Taken, rows_of, held, SealFinished, OpenFinished, OpenRefused, OpenedBy, opening_check}
 use Rattle.session.specs.Steps.{Tested}
 use Rattle.session.proofs.Endings.{last_bytes}
 use Rattle.session.proofs.Promises.{blocks, agrees, sealed_blocks}
@@ -65,16 +67,16 @@ module _ (f : Functions) (L : Lawful f) (R : Run) (t : Taken R) (lim : Limits R.
       )
 
 open_refused : (f : Functions) (L : Lawful f) (R : Run) → Taken R → R.out ≡ (rows_of opening f R).out → Limits R.header R.body → (T G : List ℕ) → Tested f R.header R.body T G None → (l' : List ℕ) (e' : Placed SessionFault) → l' ≡ replicate 16 0
-    → e' ≡ record { fault = Forged; place = length R.body } → OpenRefused f R T l' e'
+    → IsRefusal session_faults (forged (length R.body)) e' → OpenRefused f R T l' e'
 open_refused f L R t oe lim T G s l' e' z ee =
     let O = opening_law f L R.header R.body T in
     record { fault = ee; none = λ m p. let a = O.accepts.1 (m, p) in s (record { fill = a.fill; check = a.check }); blocks = blocks f L opening R t oe; agrees = agrees opening f L R (blocks f L opening R t oe); zeros = z }
 
 -- an opening's finish, once the tag has passed its check: T is the tag given, and T' what the check answered
 module _ (f : Functions) (L : Lawful f) (R : Run) (t : Taken R) (total : ℕ) (te : total ≡ length R.body) (some : 1 ≤ total) (most : total ≤ 1048576) (T T' : List ℕ) (tb : Bytes T)
-    (ok : Ok T' ≡ answered (tag_check (length T) total) T) (oe : R.out ≡ (rows_of opening f R).out) where
-  passes_tag : (tag_check (length T) total ≡ None) × (T' ≡ T)
-  passes_tag = answered_ok (tag_check (length T) total) T T' ok
+    (ok : Ok T' ≡ answered (tag_check T total) T) (oe : R.out ≡ (rows_of opening f R).out) where
+  passes_tag : (tag_check T total ≡ None) × (T' ≡ T)
+  passes_tag = answered_ok (tag_check T total) T T' ok
 
   sixteen : eqb (length T) 16 ≡ true
   sixteen = only_none (eqb (length T) 16) _ passes_tag.0
@@ -92,12 +94,12 @@ module _ (f : Functions) (L : Lawful f) (R : Run) (t : Taken R) (total : ℕ) (t
   same_tag o s = subst (λ (u : List ℕ). Tested f R.header R.body u (rows_of opening f R).out o) passes_tag.1 s
 
   pub opening_accepts : (len : ℕ) (g q l : List ℕ) (j : ℕ) → Tested f R.header R.body T' (rows_of opening f R).out (Some g) → len ≡ ends R.body → length g ≡ 16 → j ≡ len → q ≡ take j g → l ≡ take 16 (q ++ replicate 16 0)
-      → OpenedBy (end_check (length R.body) (length T)) f R T l (Ok len)
+      → OpenedBy (opening_check R T) f R T l (Ok len)
   opening_accepts len g q l j s le gl je qe e = rw (taken_some, sixteen) (open_finished f L R t lim len le g q l j gl je qe e T tag_block oe (same_tag (Some g) s))
 
-  pub opening_refuses : Tested f R.header R.body T' (rows_of opening f R).out None → OpenedBy (end_check (length R.body) (length T)) f R T (replicate 16 0) (Err (record { fault = Forged; place = total }))
+  pub opening_refuses : Tested f R.header R.body T' (rows_of opening f R).out None → OpenedBy (opening_check R T) f R T (replicate 16 0) (Err (record { fault = Forged; place = total }))
   opening_refuses s =
-      rw (taken_some, sixteen) (open_refused f L R t oe lim T (rows_of opening f R).out (same_tag None s) (replicate 16 0) (record { fault = Forged; place = total }) refl (ap (λ n. record { fault = Forged; place = n }) te))
+      rw (taken_some, sixteen) (open_refused f L R t oe lim T (rows_of opening f R).out (same_tag None s) (replicate 16 0) (record { fault = Forged; place = total }) refl (record { is = ap (λ n. record { fault = Forged; place = n }) te; number = refl; layer = refl }))
 
 -- no message seals to no ciphertext, or with a tag of another length
 pub none_empty : (f : Functions) → Lawful f → (R : Run) (T : List ℕ) → length R.body ≡ 0 → (M : List ℕ) → Seals f R.header M R.body T → ⊥
@@ -106,9 +108,14 @@ none_empty f L R T e M s = let a = (opening_law f L R.header R.body T).accepts.1
 pub none_tag : (f : Functions) → Lawful f → (R : Run) (T : List ℕ) → (length T ≡ 16 → ⊥) → (M : List ℕ) → Seals f R.header M R.body T → ⊥
 none_tag f L R T e M s = let a = (opening_law f L R.header R.body T).accepts.1 (M, s) in e a.tag_block.long
 
-tag_of_none : (b : Bool) (T : List ℕ) (place : ℕ) (e : Placed SessionFault) → Err e ≡ answered (cond b None (Some (record { fault = Tag; place = place }))) T → (b ≡ false) × (e ≡ record { fault = Tag; place = place })
+tag_of_none : (b : Bool) (T : List ℕ) (place : ℕ) (e : Placed SessionFault) → Err e ≡ answered (cond b None (Some (refusal Tag 8 SessionLayer place))) T → (b ≡ false) × (e ≡ record { fault = Tag; place = place })
 tag_of_none true T place e h = cc
 tag_of_none false T place e h = (refl, cc)
 
-pub tag_refused : (T : List ℕ) (place : ℕ) (e : Placed SessionFault) → Err e ≡ answered (tag_check (length T) place) T → (length T ≡ 16 → ⊥) × (e ≡ record { fault = Tag; place = place })
-tag_refused T place e h = let r = tag_of_none (eqb (length T) 16) T place e h in ((λ n. eqb-false (length T) 16 r.0 n), r.1)
+pub tag_refused : (T : List ℕ) (place n : ℕ) (e : Placed SessionFault) → place ≡ n → Err e ≡ answered (tag_check T place) T → (length T ≡ 16 → ⊥) × IsRefusal session_faults (refusal Tag 8 SessionLayer n) e
+tag_refused T place n e pe h =
+    let r = tag_of_none (eqb (length T) 16) T place e h in
+    let f : e.fault ≡ Tag = ap (λ (x : Placed SessionFault). x.fault) r.1 in (
+      (λ n. eqb-false (length T) 16 r.0 n),
+      record { is = r.1 ∙ ap (λ (i : ℕ). record { fault = Tag; place = i }) pe; number = ap session_faults.number f; layer = ap session_faults.layer f },
+    )

@@ -2,6 +2,8 @@
 use Rattle.std.proofs.Common.{◌≡◌, ℕ, ◌+◌, List, [], ◌∷◌, ◌++◌, length, Some, None, vec_items, Option, Result, sym, refl, ap, ◌∙◌, subst, arith, append-nil}
 use Rattle.fault.specs.declared.kinds.SessionFault.{SessionFault}
 use Rattle.fault.specs.declared.kinds.Placed.{Placed}
+use Rattle.fault.specs.Refusals.{Refusal, session_faults}
+use Rattle.fault.proofs.Refusing.{refuses_is}
 use Rattle.poet.specs.Bytes.{Block}
 use Rattle.poet.specs.Functions.{Lawful}
 use Rattle.suite.specs.declared.Suite as suite
@@ -22,16 +24,16 @@ use Rattle.session.specs.Logs.{kept, written_of, HeaderKept, BodyKept}
 use Rattle.session.specs.Playing.{HeaderPlayed, BodyPlayed}
 use Rattle.session.proofs.Stretches.{out_length}
 
-kept_taken : {X : Type 0} (o : Option (Placed SessionFault)) (v : X) (H P : List ℕ) → H ++ kept (answered o v) P ≡ taken o H P
+kept_taken : {X : Type 0} (o : Option (Refusal SessionFault)) (v : X) (H P : List ℕ) → H ++ kept (answered o v) P ≡ taken o H P
 kept_taken None v H P = refl
 kept_taken (Some e) v H P = append-nil H
 
 module _ {A B C D : Type 0} {u : suite.Ghosts A B C D} {x : permutation.Ghosts B} {y : hash.Ghosts C} {z : digest.Ghosts D} where
-  header_answer : (o : Option (Placed SessionFault)) (R : Run) (P : List ℕ) (s s' : Heading A B C D u x y z) (r : Result (Unit {0}) (Placed SessionFault)) → HeaderBy o R P s s' r → r ≡ answered o tt
+  header_answer : (o : Option (Refusal SessionFault)) (R : Run) (P : List ℕ) (s s' : Heading A B C D u x y z) (r : Result (Unit {0}) (Placed SessionFault)) → HeaderBy o R P s s' r → r ≡ answered o tt
   header_answer None R P s s' r h = h.0
-  header_answer (Some e) R P s s' r h = h.0
+  header_answer (Some e) R P s s' r h = refuses_is session_faults e r h.0
 
-  header_stands : (o : Option (Placed SessionFault)) (R : Run) (P : List ℕ) (s s' : Heading A B C D u x y z) (r : Result (Unit {0}) (Placed SessionFault)) → HeaderBy o R P s s' r → HeadingAt R s
+  header_stands : (o : Option (Refusal SessionFault)) (R : Run) (P : List ℕ) (s s' : Heading A B C D u x y z) (r : Result (Unit {0}) (Placed SessionFault)) → HeaderBy o R P s s' r → HeadingAt R s
       → HeadingAt (record { key = R.key; header = taken o R.header P; body = R.body; out = R.out }) s'
   header_stands None R P s s' r h a = h.1
   header_stands (Some e) R P s s' r h a = subst (HeadingAt R) (sym h.1) a
@@ -43,7 +45,7 @@ module _ {A B C D : Type 0} {u : suite.Ghosts A B C D} {x : permutation.Ghosts B
   header_played t p p' s s' r h K =
       let H = vec_items p.header in
       let P = t.bytes.now in
-      let o : Option (Placed SessionFault) = header_check (length H) (length P) in
+      let o : Option (Refusal SessionFault) = header_check (length H) (length P) in
       let answer : (key : List ℕ) → HeadingAt (run_of key p) s → r ≡ answered o tt = λ key a. header_answer o (run_of key p) P s s' r (h key a) in
       let header : (key : List ℕ) → HeadingAt (run_of key p) s → vec_items p'.header ≡ taken o H P = λ key a. K.header ∙ ap (λ i. H ++ kept i P) (answer key a) ∙ kept_taken o tt H P in
       record {
@@ -59,11 +61,11 @@ module _ {A B C D : Type 0} {u : suite.Ghosts A B C D} {x : permutation.Ghosts B
       }
 
 module _ {A W B C D : Type 0} {u : suite.Ghosts A B C D} {x : permutation.Ghosts B} {y : hash.Ghosts C} {z : digest.Ghosts D} {w : way.Ghosts W} where
-  body_answer_is : (o : Option (Placed SessionFault)) (R : Run) (P b b' : List ℕ) (s s' : Session A W B C D u x y z w) (r : Result (ℕ × ℕ) (Placed SessionFault)) → BodyBy o R P b b' s s' r → r ≡ answered o (given_of (held R + length P))
+  body_answer_is : (o : Option (Refusal SessionFault)) (R : Run) (P b b' : List ℕ) (s s' : Session A W B C D u x y z w) (r : Result (ℕ × ℕ) (Placed SessionFault)) → BodyBy o R P b b' s s' r → r ≡ answered o (given_of (held R + length P))
   body_answer_is None R P b b' s s' r h = h.answer
-  body_answer_is (Some e) R P b b' s s' r h = h.0
+  body_answer_is (Some e) R P b b' s s' r h = refuses_is session_faults e r h.0
 
-  body_stands : (o : Option (Placed SessionFault)) (R : Run) (P b b' : List ℕ) (s s' : Session A W B C D u x y z w) (r : Result (ℕ × ℕ) (Placed SessionFault)) → BodyBy o R P b b' s s' r → SessionAt R s
+  body_stands : (o : Option (Refusal SessionFault)) (R : Run) (P b b' : List ℕ) (s s' : Session A W B C D u x y z w) (r : Result (ℕ × ℕ) (Placed SessionFault)) → BodyBy o R P b b' s s' r → SessionAt R s
       → SessionAt (record { key = R.key; header = R.header; body = taken o R.body P; out = R.out ++ written_of (answered o (given_of (held R + length P))) b' }) s'
   body_stands None R P b b' s s' r h a = h.at
   body_stands (Some e) R P b b' s s' r h a =
@@ -86,7 +88,7 @@ module _ {A W B C D : Type 0} {u : suite.Ghosts A B C D} {x : permutation.Ghosts
     body_played t p p' s s' b b' r room h K =
         let M = vec_items p.body in
         let P = t.bytes.now in
-        let o : Option (Placed SessionFault) = body_check_of (length M) t in
+        let o : Option (Refusal SessionFault) = body_check_of (length M) t in
         let by : (key : List ℕ) → SessionAt (run_of key p) s → BodyBy o (run_of key p) P b b' s s' r = λ key a. rw (held_same (run_of key p) s a, room) at (h key a) in
         let answer : (key : List ℕ) → SessionAt (run_of key p) s → r ≡ answered o (given_of (held_of (length M) + length P)) =
         λ key a. body_answer_is o (run_of key p) P b b' s s' r (by key a) ∙ ap (λ n. answered o (given_of (n + length P))) (held_same (run_of key p) s a) in

@@ -2,8 +2,8 @@
 use Rattle.std.specs.Prelude.{◌≡◌, ℕ, ◌-◌, ◌*◌, ◌<◌, Bool, true, false, ◌↔◌, List, [], ◌∷◌, ◌++◌, length, take, drop, replicate, Some, None, Ok, Err, vec_items, Option, Result}
 use Rattle.std.specs.Borrow.{Bor}
 use Rattle.fault.specs.declared.kinds.SessionFault.{SessionFault}
-use Rattle.fault.specs.declared.kinds.SessionFault.TheVariants.{Forged}
 use Rattle.fault.specs.declared.kinds.Placed.{Placed}
+use Rattle.fault.specs.Refusals.{Refusal, IsRefusal, Refuses, session_faults}
 use Rattle.poet.specs.Functions.{Functions}
 use Rattle.poet.specs.Seal.{Seals}
 use Rattle.suite.specs.declared.Suite as suite
@@ -23,7 +23,8 @@ use Rattle.session.specs.declared.types.Session.{Session}
 use Rattle.session.specs.Directions.{Direction, sealing, opening}
 use Rattle.session.specs.Runs.{Run}
 use Rattle.session.specs.Promise.{Blocks, AgreesWith}
-use Rattle.session.specs.Sessions.{SessionAt, writes, empty_check, end_check}
+use Rattle.session.specs.Calls.{forged}
+use Rattle.session.specs.Sessions.{SessionAt, writes, sealing_check, opening_check}
 use Rattle.session.specs.Scripts.{run_of, headers_taken, header_answers, bodies_taken, body_answers, held_of}
 
 -- Where no finish was accepted, the body calls handed out every whole block that at least one byte follows, and the rest is held back.
@@ -37,23 +38,23 @@ pub record LastHanded (R : Run) (last : List ℕ) : Type 0 where
   pub zeros : drop (held_of (length R.body)) last ≡ replicate (16 - held_of (length R.body)) 0
 
 -- The finish of a sealing, by its check: its answer, its two places and the run.
-abbrev pub SealEnds : Option (Placed SessionFault) → (f : Functions) (R : Run) (r : Result ℕ (Placed SessionFault)) (last tag : List ℕ) → Type 0
-SealEnds (Some e) f R r last tag = (r ≡ Err e) × (last ≡ replicate 16 0) × (tag ≡ replicate 16 0) × HeldBack R
+abbrev pub SealEnds : Option (Refusal SessionFault) → (f : Functions) (R : Run) (r : Result ℕ (Placed SessionFault)) (last tag : List ℕ) → Type 0
+SealEnds (Some e) f R r last tag = Refuses session_faults e r × (last ≡ replicate 16 0) × (tag ≡ replicate 16 0) × HeldBack R
 SealEnds None f R r last tag = (r ≡ Ok (held_of (length R.body))) × Seals f R.header R.body R.out tag × LastHanded R last
 
 -- The finish of an opening with the tag T: accepted exactly if some message seals so; that message was handed out, and it is the only one.
 abbrev pub OpenVerdict : (f : Functions) (R : Run) (T : List ℕ) (r : Result ℕ (Placed SessionFault)) (last : List ℕ) → Type 0
 OpenVerdict f R T (Ok n) last = (n ≡ held_of (length R.body)) × Seals f R.header R.out R.body T × ((M : List ℕ) → Seals f R.header M R.body T → M ≡ R.out) × LastHanded R last
-OpenVerdict f R T (Err e) last = (e ≡ record { fault = Forged; place = length R.body }) × ((M : List ℕ) → Seals f R.header M R.body T → ⊥) × (last ≡ replicate 16 0) × HeldBack R
+OpenVerdict f R T (Err e) last = IsRefusal session_faults (forged (length R.body)) e × ((M : List ℕ) → Seals f R.header M R.body T → ⊥) × (last ≡ replicate 16 0) × HeldBack R
 
-abbrev pub OpenEnds : Option (Placed SessionFault) → (f : Functions) (R : Run) (T : List ℕ) (r : Result ℕ (Placed SessionFault)) (last : List ℕ) → Type 0
-OpenEnds (Some e) f R T r last = (r ≡ Err e) × (last ≡ replicate 16 0) × ((M : List ℕ) → Seals f R.header M R.body T → ⊥) × HeldBack R
+abbrev pub OpenEnds : Option (Refusal SessionFault) → (f : Functions) (R : Run) (T : List ℕ) (r : Result ℕ (Placed SessionFault)) (last : List ℕ) → Type 0
+OpenEnds (Some e) f R T r last = Refuses session_faults e r × (last ≡ replicate 16 0) × ((M : List ℕ) → Seals f R.header M R.body T → ⊥) × HeldBack R
 OpenEnds None f R T r last = OpenVerdict f R T r last
 
 -- What is promised of a sealing under `key`: H is the header taken, M and `before` what was taken and answered before the body calls bs.
 abbrev pub SealFinish : Bool → (f : Functions) (R : Run) (answers : List Answer) (p : Played) (e : End) → Type 0
 SealFinish false f R answers p e = (e ≡ Unfinished) × (vec_items p.answers ≡ answers) × HeldBack R
-SealFinish true f R answers p e = (r : Result ℕ (Placed SessionFault)) × (last : List ℕ) × (tag : List ℕ) × (e ≡ Sealed last tag) × (vec_items p.answers ≡ answers ++ Finish r ∷ []) × SealEnds (empty_check (length R.body)) f R r last tag
+SealFinish true f R answers p e = (r : Result ℕ (Placed SessionFault)) × (last : List ℕ) × (tag : List ℕ) × (e ≡ Sealed last tag) × (vec_items p.answers ≡ answers ++ Finish r ∷ []) × SealEnds (sealing_check R) f R r last tag
 
 pub record SealPromise (under : List ℕ → Functions) (key H M : List ℕ) (before : List Answer) (bs : List Stretch) (fin : Bool) (p : Played) (e : End) : Type 0 where
   pub header : vec_items p.header ≡ H
@@ -65,7 +66,7 @@ pub record SealPromise (under : List ℕ → Functions) (key H M : List ℕ) (be
 -- ... and of an opening, whose finish is given the tag, if it has one.
 abbrev pub OpenFinish : Option (List ℕ) → (f : Functions) (R : Run) (answers : List Answer) (p : Played) (e : End) → Type 0
 OpenFinish None f R answers p e = (e ≡ Unfinished) × (vec_items p.answers ≡ answers) × HeldBack R
-OpenFinish (Some T) f R answers p e = (r : Result ℕ (Placed SessionFault)) × (last : List ℕ) × (e ≡ Opened last) × (vec_items p.answers ≡ answers ++ Finish r ∷ []) × OpenEnds (end_check (length R.body) (length T)) f R T r last
+OpenFinish (Some T) f R answers p e = (r : Result ℕ (Placed SessionFault)) × (last : List ℕ) × (e ≡ Opened last) × (vec_items p.answers ≡ answers ++ Finish r ∷ []) × OpenEnds (opening_check R T) f R T r last
 
 pub record OpenPromise (under : List ℕ → Functions) (key H M : List ℕ) (before : List Answer) (bs : List Stretch) (tag : Option (List ℕ)) (p : Played) (e : End) : Type 0 where
   pub header : vec_items p.header ≡ H

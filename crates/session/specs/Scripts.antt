@@ -1,7 +1,7 @@
 -- A written session: which of its calls are heeded, what it takes, and what it answers.
 use Rattle.std.specs.Prelude.{ℕ, ◌+◌, ◌-◌, List, [], ◌∷◌, ◌++◌, length, Some, None, vec_items, Option}
 use Rattle.fault.specs.declared.kinds.SessionFault.{SessionFault}
-use Rattle.fault.specs.declared.kinds.Placed.{Placed}
+use Rattle.fault.specs.Refusals.{Refusal}
 use Rattle.session.specs.declared.logs.Played.{Played}
 use Rattle.session.specs.declared.script.Answer.{Answer}
 use Rattle.session.specs.declared.script.Answer.TheVariants.{Header, Body}
@@ -15,7 +15,7 @@ abbrev pub run_of : List ℕ → Played → Run
 run_of key p = record { key = key; header = vec_items p.header; body = vec_items p.body; out = vec_items p.out }
 
 -- a call that is refused takes nothing
-abbrev pub taken : Option (Placed SessionFault) → (so_far more : List ℕ) → List ℕ
+abbrev pub taken : Option (Refusal SessionFault) → (so_far more : List ℕ) → List ℕ
 taken None H p = H ++ p
 taken (Some e) H p = H
 
@@ -32,7 +32,7 @@ header_answers H (s ∷ ss) = Header (answered (header_check (length H) (length 
 abbrev pub held_of : ℕ → ℕ
 held_of n = n - writes n
 
-abbrev pub body_check_of : ℕ → Stretch → Option (Placed SessionFault)
+abbrev pub body_check_of : ℕ → Stretch → Option (Refusal SessionFault)
 body_check_of n s = body_check n (held_of n) (length s.bytes.now) s.room
 
 abbrev pub bodies_taken : List ℕ → List Stretch → List ℕ

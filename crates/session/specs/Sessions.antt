@@ -1,11 +1,13 @@
 -- Where a session stands after a run, and what each of its calls does.
-use Rattle.std.specs.Prelude.{◌≡◌, ℕ, ◌+◌, ◌-◌, ◌*◌, ◌/◌, ◌≤◌, cond, List, [], ◌++◌, length, take, drop, replicate, Some, None, Ok, Err, Option, Result, ◌==◌, nat_lt}
+use Rattle.std.specs.Prelude.{◌≡◌, ℕ, ◌+◌, ◌-◌, ◌*◌, ◌/◌, ◌≤◌, if◌then◌else◌, List, [], ◌++◌, length, take, drop, replicate, Some, None, Ok, Err, Option, Result, ◌==◌, nat_lt}
+use Rattle.fault.specs.declared.kinds.Layer.TheVariants.{Session as SessionLayer}
 use Rattle.fault.specs.declared.kinds.SessionFault.{SessionFault}
-use Rattle.fault.specs.declared.kinds.SessionFault.TheVariants.{Header, Body, Room, Empty, Forged}
+use Rattle.fault.specs.declared.kinds.SessionFault.TheVariants.{Header, Body, Room, Empty}
 use Rattle.fault.specs.declared.kinds.Placed.{Placed}
+use Rattle.fault.specs.Refusals.{Refusal, refusal, IsRefusal, Refuses, session_faults}
 use Rattle.poet.specs.Bytes.{Bytes, Block}
 use Rattle.poet.specs.Functions.{Functions}
-use Rattle.poet.specs.Seal.{Seals}
+use Rattle.poet.specs.Seal.{header_most, body_most, Seals}
 use Rattle.poet.specs.Rows.{State, rows, whole, start}
 use Rattle.suite.specs.declared.Suite as suite
 use Rattle.suite.specs.declared.Permutation as permutation
@@ -15,7 +17,7 @@ use Rattle.session.specs.declared.types.Heading.{Heading}
 use Rattle.session.specs.declared.rows.Way as way
 use Rattle.session.specs.declared.types.Session.{Session}
 use Rattle.session.specs.Engines.{EngineAt}
-use Rattle.session.specs.Calls.{tag_check}
+use Rattle.session.specs.Calls.{tag_check, forged}
 use Rattle.session.specs.Directions.{Direction, sealing, opening, picks, turns}
 use Rattle.session.specs.Runs.{Run, headed, bodied, finished}
 use Rattle.session.specs.Promise.{Blocks, AgreesWith}
@@ -24,7 +26,7 @@ use Rattle.session.specs.Promise.{Blocks, AgreesWith}
 pub record Taken (R : Run) : Type 0 where
   pub key_block : Block R.key
   pub header_bytes : Bytes R.header
-  pub header_most : length R.header ≤ 65536
+  pub header_most : length R.header ≤ header_most
   pub body_bytes : Bytes R.body
 
 -- the heading s stands at the run R
@@ -53,21 +55,22 @@ pub record SessionAt {A W B C D : Type 0} {u : suite.Ghosts A B C D} {p : permut
   pub total_is : s.total ≡ length R.body
 
 -- A header call brings `more` bytes to `taken`.
-abbrev pub header_check : (taken more : ℕ) → Option (Placed SessionFault)
-header_check taken more = cond (nat_lt 65536 (taken + more)) (Some (record { fault = Header; place = taken })) None
+abbrev pub header_check : (taken more : ℕ) → Option (Refusal SessionFault)
+header_check taken more = if nat_lt header_most (taken + more) then Some (refusal Header 4 SessionLayer taken) else None
 
-abbrev pub HeaderBy : {A B C D : Type 0} {u : suite.Ghosts A B C D} {p : permutation.Ghosts B} {h : hash.Ghosts C} {d : digest.Ghosts D} → Option (Placed SessionFault) → Run → List ℕ → (s s' : Heading A B C D u p h d) → Result (Unit {0}) (Placed SessionFault) → Type 0
-HeaderBy (Some e) R P s s' r = (r ≡ Err e) × (s' ≡ s)
+abbrev pub HeaderBy : {A B C D : Type 0} {u : suite.Ghosts A B C D} {p : permutation.Ghosts B} {h : hash.Ghosts C} {d : digest.Ghosts D} → Option (Refusal SessionFault) → Run → List ℕ → (s s' : Heading A B C D u p h d) → Result (Unit {0}) (Placed SessionFault) → Type 0
+HeaderBy (Some e) R P s s' r = Refuses session_faults e r × (s' ≡ s)
 HeaderBy None R P s s' r = (r ≡ Ok tt) × HeadingAt (headed R P) s'
 
 -- A body call brings `more` bytes; with t the bytes held and brought it writes every whole block that at least one byte follows.
 abbrev pub writes : ℕ → ℕ
 writes t = 16 * ((t - 1) / 16)
 
-abbrev pub body_check : (taken held more room : ℕ) → Option (Placed SessionFault)
+abbrev pub body_check : (taken held more room : ℕ) → Option (Refusal SessionFault)
 body_check taken held more room =
-    cond (nat_lt 1048576 (taken + more)) (Some (record { fault = Body; place = taken }))
-    (cond (nat_lt room (writes (held + more))) (Some (record { fault = Room; place = taken })) None)
+    if nat_lt body_most (taken + more) then Some (refusal Body 5 SessionLayer taken)
+    else if nat_lt room (writes (held + more)) then Some (refusal Room 6 SessionLayer taken)
+    else None
 
 -- what it answers
 abbrev pub given_of : ℕ → ℕ × ℕ
@@ -84,14 +87,14 @@ pub record BodyTaken {A W B C D : Type 0} {u : suite.Ghosts A B C D} {p : permut
   pub blocks : Blocks w.way (u.under R.key) (bodied R P (take (writes (held R + length P)) o'))
   pub agrees : AgreesWith w.way (u.under R.key) (bodied R P (take (writes (held R + length P)) o'))
 
-abbrev pub BodyBy : {A W B C D : Type 0} {u : suite.Ghosts A B C D} {p : permutation.Ghosts B} {h : hash.Ghosts C} {d : digest.Ghosts D} {w : way.Ghosts W} → Option (Placed SessionFault) → Run → (P o o' : List ℕ) → (s s' : Session A W B C D u p h d w) → Result (ℕ × ℕ) (Placed SessionFault) → Type 0
-BodyBy (Some e) R P o o' s s' r = (r ≡ Err e) × (s' ≡ s) × (o' ≡ o)
+abbrev pub BodyBy : {A W B C D : Type 0} {u : suite.Ghosts A B C D} {p : permutation.Ghosts B} {h : hash.Ghosts C} {d : digest.Ghosts D} {w : way.Ghosts W} → Option (Refusal SessionFault) → Run → (P o o' : List ℕ) → (s s' : Session A W B C D u p h d w) → Result (ℕ × ℕ) (Placed SessionFault) → Type 0
+BodyBy (Some e) R P o o' s s' r = Refuses session_faults e r × (s' ≡ s) × (o' ≡ o)
 BodyBy None R P o o' s s' r = BodyTaken R P o o' s' r
 
 -- A sealing's finish is refused where no body was taken. It writes zeros into its places l' and t' then. Else it hands out the last
 -- bytes, which were held back, and writes the tag: together the seal of the message taken.
-abbrev pub empty_check : (taken : ℕ) → Option (Placed SessionFault)
-empty_check taken = cond (taken == 0) (Some (record { fault = Empty; place = 0 })) None
+abbrev pub sealing_check : Run → Option (Refusal SessionFault)
+sealing_check R = if length R.body == 0 then Some (refusal Empty 7 SessionLayer 0) else None
 
 pub record SealFinished (f : Functions) (R : Run) (l' t' : List ℕ) (r : Result ℕ (Placed SessionFault)) : Type 0 where
   pub answer : r ≡ Ok (held R)
@@ -100,14 +103,16 @@ pub record SealFinished (f : Functions) (R : Run) (l' t' : List ℕ) (r : Result
   pub agrees : AgreesWith sealing f (finished R (take (held R) l'))
   pub zeros : drop (held R) l' ≡ replicate (16 - held R) 0
 
-abbrev pub SealedBy : Option (Placed SessionFault) → (f : Functions) → Run → (l' t' : List ℕ) → Result ℕ (Placed SessionFault) → Type 0
-SealedBy (Some e) f R l' t' r = (r ≡ Err e) × (l' ≡ replicate 16 0) × (t' ≡ replicate 16 0)
+abbrev pub SealedBy : Option (Refusal SessionFault) → (f : Functions) → Run → (l' t' : List ℕ) → Result ℕ (Placed SessionFault) → Type 0
+SealedBy (Some e) f R l' t' r = Refuses session_faults e r × (l' ≡ replicate 16 0) × (t' ≡ replicate 16 0)
 SealedBy None f R l' t' r = SealFinished f R l' t' r
 
 -- An opening's finish is refused where no body was taken, where the tag has not sixteen bytes, and where no message seals to the ciphertext
 -- taken and the tag given. It leaves zeros in its place l' then. Else what it handed out with the last bytes is that message, and the only one.
-abbrev pub end_check : (taken tag : ℕ) → Option (Placed SessionFault)
-end_check taken tag = cond (taken == 0) (Some (record { fault = Empty; place = 0 })) (tag_check tag taken)
+abbrev pub opening_check : Run → (T : List ℕ) → Option (Refusal SessionFault)
+opening_check R T =
+    if length R.body == 0 then Some (refusal Empty 7 SessionLayer 0)
+    else tag_check T (length R.body)
 
 pub record OpenFinished (f : Functions) (R : Run) (T l' : List ℕ) : Type 0 where
   pub seals : Seals f R.header (R.out ++ take (held R) l') R.body T
@@ -117,7 +122,7 @@ pub record OpenFinished (f : Functions) (R : Run) (T l' : List ℕ) : Type 0 whe
   pub zeros : drop (held R) l' ≡ replicate (16 - held R) 0
 
 pub record OpenRefused (f : Functions) (R : Run) (T l' : List ℕ) (e : Placed SessionFault) : Type 0 where
-  pub fault : e ≡ record { fault = Forged; place = length R.body }
+  pub fault : IsRefusal session_faults (forged (length R.body)) e
   pub none : (M : List ℕ) → Seals f R.header M R.body T → ⊥
   pub blocks : Blocks opening f R
   pub agrees : AgreesWith opening f R
@@ -127,6 +132,6 @@ abbrev pub OpenJudged : (f : Functions) → Run → (T l' : List ℕ) → Result
 OpenJudged f R T l' (Ok n) = (n ≡ held R) × OpenFinished f R T l'
 OpenJudged f R T l' (Err e) = OpenRefused f R T l' e
 
-abbrev pub OpenedBy : Option (Placed SessionFault) → (f : Functions) → Run → (T l' : List ℕ) → Result ℕ (Placed SessionFault) → Type 0
-OpenedBy (Some e) f R T l' r = (r ≡ Err e) × (l' ≡ replicate 16 0) × ((M : List ℕ) → Seals f R.header M R.body T → ⊥)
+abbrev pub OpenedBy : Option (Refusal SessionFault) → (f : Functions) → Run → (T l' : List ℕ) → Result ℕ (Placed SessionFault) → Type 0
+OpenedBy (Some e) f R T l' r = Refuses session_faults e r × (l' ≡ replicate 16 0) × ((M : List ℕ) → Seals f R.header M R.body T → ⊥)
 OpenedBy None f R T l' r = OpenJudged f R T l' r

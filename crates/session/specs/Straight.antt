@@ -1,8 +1,8 @@
 -- What one session over whole buffers does; the calls for whole buffers are built on it.
 use Rattle.std.specs.Prelude.{◌≡◌, ℕ, List, length, take, drop, Ok, Err, Result}
 use Rattle.fault.specs.declared.kinds.SessionFault.{SessionFault}
-use Rattle.fault.specs.declared.kinds.SessionFault.TheVariants.{Forged}
 use Rattle.fault.specs.declared.kinds.Placed.{Placed}
+use Rattle.fault.specs.Refusals.{IsRefusal, session_faults}
 use Rattle.poet.specs.Functions.{Functions}
 use Rattle.poet.specs.Seal.{Seals}
 use Rattle.suite.specs.declared.Suite as suite
@@ -11,7 +11,7 @@ use Rattle.suite.specs.declared.ChainingHash as hash
 use Rattle.suite.specs.declared.HeaderDigest as digest
 use Rattle.session.specs.declared.rows.Way as way
 use Rattle.session.specs.declared.types.Session.{Session}
-use Rattle.session.specs.Calls.{Sealed, Opened}
+use Rattle.session.specs.Calls.{forged, Sealed, Opened}
 use Rattle.session.specs.Runs.{Run}
 use Rattle.session.specs.Sessions.{SessionAt, writes}
 
@@ -37,7 +37,7 @@ SealRun f H M o o' t' (Err e) = ⊥
 
 -- an opening is refused exactly if no message seals so
 pub record OpenRefusal (f : Functions) (H C T o o' : List ℕ) (e : Placed SessionFault) : Type 0 where
-  pub fault : e ≡ record { fault = Forged; place = length C }
+  pub fault : IsRefusal session_faults (forged (length C)) e
   pub none : (M : List ℕ) → Seals f H M C T → ⊥
   pub rest : drop (writes (length C)) o' ≡ drop (writes (length C)) o
 

@@ -1,8 +1,8 @@
 // The end of a sealing and of an opening.
-ghost use Rattle.std.specs.Prelude.{◌≤◌, length, IfOk};
+ghost use Rattle.std.specs.Prelude.{◌≤◌, IfOk};
 ghost use Rattle.session.specs.Directions.{opening};
 ghost use Rattle.session.specs.Runs.{Run};
-ghost use Rattle.session.specs.Sessions.{OpenedBy, SealedBy, SessionAt, empty_check, end_check, rows_of};
+ghost use Rattle.session.specs.Sessions.{OpenedBy, SealedBy, SessionAt, opening_check, rows_of, sealing_check};
 ghost use Rattle.session.specs.Steps.{Tested};
 
 use crate::blocks::same;
@@ -22,7 +22,7 @@ impl<S: Suite> Sealing<S> {
         tag: &mut [u8; 16],
     ) -> Result<usize, Placed<SessionFault>>
         ensures few { IfOk result (λ n. n ≤ 16) }
-        ensures call { (R : Run) → SessionAt R self → SealedBy (empty_check (length R.body)) (S.Suite.under R.key) R last.new tag.new result }
+        ensures call { (R : Run) → SessionAt R self → SealedBy (sealing_check R) (S.Suite.under R.key) R last.new tag.new result }
     {
         if self.total == 0 {
             *last = [0; 16];
@@ -63,7 +63,7 @@ impl<S: Suite> Opening<S> {
     // zeros alone. Answers how many bytes they are.
     pub fn finish(self, tag: &[u8], last: &mut [u8; 16]) -> Result<usize, Placed<SessionFault>>
         ensures few { IfOk result (λ n. n ≤ 16) }
-        ensures call { (R : Run) → SessionAt R self → OpenedBy (end_check (length R.body) (length tag.now)) (S.Suite.under R.key) R tag.now last.new result }
+        ensures call { (R : Run) → SessionAt R self → OpenedBy (opening_check R tag.now) (S.Suite.under R.key) R tag.now last.new result }
     {
         *last = [0; 16];
         if self.total == 0 {

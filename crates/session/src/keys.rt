@@ -1,5 +1,5 @@
 // The place of the caller's that a key is put into.
-ghost use Rattle.std.specs.Prelude.{◌≡◌, length, replicate};
+ghost use Rattle.std.specs.Prelude.{◌≡◌, replicate};
 ghost use Rattle.session.specs.Calls.{FillBy, key_check};
 
 use fault::kinds::{KeyFault, Placed};
@@ -19,7 +19,7 @@ impl KeyPlace {
 
     // Puts a key in, if it has sixteen bytes.
     pub fn fill(&mut self, key: &[u8]) -> Result<(), Placed<KeyFault>>
-        ensures { FillBy (key_check (length key.now)) key.now self.old.bytes self.new.bytes result }
+        ensures { FillBy (key_check key.now) key.now self.old.bytes self.new.bytes result }
     {
         if key.len() != 16 {
             return Err(Placed {

@@ -1,5 +1,5 @@
 use Rattle.std.proofs.Common.{arith, ◌-◌}
-use Rattle.delivery.specs.Sheets.{open_checks}
+use Rattle.session.specs.Calls.{open_checks}
 use Rattle.delivery.proofs.Opening.{accepted, broken, handed_on}
 use Rattle.delivery.proofs.sheets.open_sheet_as.Goals as goal
 

@@ -19,7 +19,7 @@ returns-then-out-written-clause-call g c =
     let o = out_length f (g.met.S.Suite.lawful R.key a.taken.key_block) g.W.Way.way R a.taken.header_bytes a.taken.body_bytes a.out_is in
     let e : ltb 1048576 (length R.body + length P) ≡ false = le-ltb 1048576 (length R.body + length P) (omega arith) in
     let d : ltb (length c.args.out.now) (writes (held R + length P)) ≡ true = lt-ltb (length c.args.out.now) (writes (held R + length P)) (omega arith) in
-    rw (e, d) ((cc), refl, refl)
+    rw (e, d) (record { is = cc; number = refl; layer = refl }, refl, refl)
 
 pub returns-clause-call : goal.returns-clause-call
 returns-clause-call g c =
