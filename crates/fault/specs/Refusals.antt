@@ -1,5 +1,5 @@
 -- What it means that a call refuses: which fault it gives, with which number, of which layer and at which place.
-use Rattle.std.specs.Prelude.{◌≡◌, ℕ, Ok, Err, Result}
+use Rattle.std.specs.Prelude.{◌≡◌, ℕ, Some, None, Ok, Err, IsOk, Option, Result}
 use Rattle.fault.specs.declared.kinds.Layer.{Layer}
 use Rattle.fault.specs.declared.kinds.Placed.{Placed}
 use Rattle.fault.specs.declared.kinds.KeyFault.{KeyFault}
@@ -52,7 +52,12 @@ abbrev pub Refuses : {F X : Type 0} → Table F → Refusal F → Result X (Plac
 Refuses t e (Ok x) = ⊥
 Refuses t e (Err p) = IsRefusal t e p
 
--- ... where the call may also give up for want of memory.
+-- It refuses exactly if a check fails, and then as that check says.
+abbrev pub RefusedBy : {F X : Type 0} → Table F → Option (Refusal F) → Result X (Placed F) → Type 0
+RefusedBy t None r = IsOk r
+RefusedBy t (Some e) r = Refuses t e r
+
+-- The call that answers r refuses so; it may also give up for want of memory.
 abbrev pub Halts : {F X : Type 0} → Table F → Refusal F → Result X (Halt F) → Type 0
 Halts t e (Ok x) = ⊥
 Halts t e (Err (Refused p)) = IsRefusal t e p

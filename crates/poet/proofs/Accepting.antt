@@ -1,8 +1,8 @@
--- The law of opening.
+-- The laws of opening and of a seal's lengths.
 use Rattle.std.proofs.Common.{sym}
 use Rattle.poet.specs.Rows.{opened}
-use Rattle.poet.specs.Laws.{OpeningLaw}
-use Rattle.poet.proofs.Opening.{accepted, sealed_accepts, opened_is}
+use Rattle.poet.specs.Laws.{OpeningLaw, TagLaw}
+use Rattle.poet.proofs.Opening.{accepted, sealed_accepts, opened_is, cipher_length}
 use Rattle.poet.proofs.Computing.{computing_law}
 
 pub opening_law : OpeningLaw
@@ -14,3 +14,6 @@ opening_law f L h c t = record {
   computes = λ a. (computing_law f L h (opened f h c t) c t).0 (accepted f L h c t a);
   only = λ m s. sym (opened_is f L h m c t ((computing_law f L h m c t).1 s));
 }
+
+pub tag_law : TagLaw
+tag_law f L h m c t s = let k = (computing_law f L h m c t).1 s in record { ciphertext = cipher_length f L h m c t k; tag = (sealed_accepts f L h m c t k).tag_block }

@@ -9,6 +9,14 @@ use Rattle.poet.specs.Rows.{State, Sheet, rows, whole, last, sheet, opened, Comp
 abbrev pub ComputingLaw : Type 0
 ComputingLaw = (f : Functions) → Lawful f → (H M C T : List ℕ) → Computed f H M C T ↔ Seals f H M C T
 
+-- A seal's ciphertext is as long as its message, and its tag has sixteen bytes.
+pub record Lengths (M C T : List ℕ) : Type 0 where
+  pub ciphertext : length C ≡ length M
+  pub tag : Block T
+
+abbrev pub TagLaw : Type 0
+TagLaw = (f : Functions) → Lawful f → (H M C T : List ℕ) → Seals f H M C T → Lengths M C T
+
 -- Opening accepts exactly what some message seals to; it computes that message, and every message that seals so equals it.
 pub record Opens (f : Functions) (H C T : List ℕ) : Type 0 where
   pub accepts : Accepts f H C T ↔ ((M : List ℕ) × Seals f H M C T)

@@ -5,7 +5,7 @@
 #![tactic(auto)]
 
 ghost use Rattle.poet.specs.Bytes.{◌⊕◌};
-ghost use Rattle.poet.specs.Laws.{ComputingLaw, LawfulSome, OpeningLaw, OpeningPrefix, PiecesLaw, PrefixLaw, SealingPrefix};
+ghost use Rattle.poet.specs.Laws.{ComputingLaw, LawfulSome, OpeningLaw, OpeningPrefix, PiecesLaw, PrefixLaw, SealingPrefix, TagLaw};
 ghost use Rattle.std.specs.Prelude.{◌≡◌, ◌++◌, take};
 
 use std::array;
@@ -28,9 +28,10 @@ pub fn complete(front: &[u8], fill: &[u8; 16]) -> [u8; 16]
     block
 }
 
-// What the definitions compute is the seal by its equations, and nothing else is.
+// What the definitions compute is the seal by its equations, and nothing else is; and what lengths a seal has.
 pub fn computing_stands() -> u8
-    ensures { ComputingLaw }
+    ensures computing { ComputingLaw }
+    ensures lengths { TagLaw }
 {
     0
 }

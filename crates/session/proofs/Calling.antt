@@ -1,9 +1,9 @@
 -- What the calls of a session tell once their checks are passed.
-use Rattle.std.proofs.Common.{◌≡◌, ℕ, ◌+◌, ◌≤◌, false, eqb, ltb, List, length, Some, None, Ok, Option, Result, refl, arith, le-ltb, ne_eqb}
-use Rattle.fault.specs.declared.kinds.KeyFault.{KeyFault}
+use Rattle.std.proofs.Common.{◌≡◌, ℕ, ◌+◌, ◌≤◌, false, eqb, ltb, List, length, take, drop, IfOk, Ok, Result, arith, le-ltb, ne_eqb}
+use Rattle.std.specs.Result.{OnOk, OnErr}
 use Rattle.fault.specs.declared.kinds.SessionFault.{SessionFault}
 use Rattle.fault.specs.declared.kinds.Placed.{Placed}
-use Rattle.fault.specs.Refusals.{Refusal}
+use Rattle.fault.specs.Refusals.{RefusedBy, session_faults}
 use Rattle.poet.specs.Functions.{Functions}
 use Rattle.suite.specs.declared.Suite as suite
 use Rattle.suite.specs.declared.Permutation as permutation
@@ -12,26 +12,23 @@ use Rattle.suite.specs.declared.HeaderDigest as digest
 use Rattle.session.specs.declared.types.Heading.{Heading}
 use Rattle.session.specs.declared.rows.Way as way
 use Rattle.session.specs.declared.types.Session.{Session}
-use Rattle.session.specs.Calls.{FillBy}
-use Rattle.session.specs.Runs.{Run, headed}
-use Rattle.session.specs.Sessions.{HeadingAt, header_check, HeaderBy, body_check, held, writes, BodyTaken, BodyBy, sealing_check, SealFinished, SealedBy, opening_check, OpenJudged, OpenedBy}
-
-pub fill_ok : (o : Option (Refusal KeyFault)) (key b b' : List ℕ) → FillBy o key b b' (Ok tt) → (o ≡ None) × (b' ≡ key)
-fill_ok None key b b' f = (refl, f.1)
-fill_ok (Some e) key b b' f = absurd f.0
+use Rattle.session.specs.Runs.{Run, headed, bodied}
+use Rattle.session.specs.Sessions.{HeadingAt, SessionAt, header_check, body_check, given_of, held, writes, sealing_check, opening_check}
+use Rattle.session.proofs.ByChecks.{header_by, BodyTaken, body_by, SealFinished, SealedBy, OpenJudged, OpenedBy}
 
 pub header_ok : {A B C D : Type 0} {u : suite.Ghosts A B C D} {p : permutation.Ghosts B} {h : hash.Ghosts C} {d : digest.Ghosts D} (R : Run) (P : List ℕ) (s s' : Heading A B C D u p h d) (r : Result (Unit {0}) (Placed SessionFault))
-    → length R.header + length P ≤ 65536 → HeaderBy (header_check (length R.header) (length P)) R P s s' r → (r ≡ Ok tt) × HeadingAt (headed R P) s'
-header_ok R P s s' r l c =
+    → length R.header + length P ≤ 65536 → RefusedBy session_faults (header_check (length R.header) (length P)) r → OnErr r (s' ≡ s) → OnOk r (HeadingAt (headed R P) s') → (r ≡ Ok tt) × HeadingAt (headed R P) s'
+header_ok R P s s' r l f n t =
     let e : ltb 65536 (length R.header + length P) ≡ false = le-ltb 65536 (length R.header + length P) l in
-    rw e at c
+    rw e at (header_by (header_check (length R.header) (length P)) R P s s' r f n t)
 
 pub body_ok : {A W B C D : Type 0} {u : suite.Ghosts A B C D} {p : permutation.Ghosts B} {h : hash.Ghosts C} {d : digest.Ghosts D} {w : way.Ghosts W} (R : Run) (P o o' : List ℕ) (s s' : Session A W B C D u p h d w) (r : Result (ℕ × ℕ) (Placed SessionFault))
-    → length R.body + length P ≤ 1048576 → writes (held R + length P) ≤ length o → BodyBy (body_check (length R.body) (held R) (length P) (length o)) R P o o' s s' r → BodyTaken R P o o' s' r
-body_ok R P o o' s s' r l m c =
+    → length R.body + length P ≤ 1048576 → writes (held R + length P) ≤ length o → RefusedBy session_faults (body_check (length R.body) (held R) (length P) (length o)) r → OnErr r ((s' ≡ s) × (o' ≡ o)) → IfOk r (λ n. n ≡ given_of (held R + length P))
+    → IfOk r (λ n. drop n.0 o' ≡ drop n.0 o) → IfOk r (λ n. SessionAt (bodied R P (take n.0 o')) s') → BodyTaken R P o o' s' r
+body_ok R P o o' s s' r l m f k a q t =
     let e : ltb 1048576 (length R.body + length P) ≡ false = le-ltb 1048576 (length R.body + length P) l in
     let d : ltb (length o) (writes (held R + length P)) ≡ false = le-ltb (length o) (writes (held R + length P)) m in
-    rw (e, d) at c
+    rw (e, d) at (body_by (body_check (length R.body) (held R) (length P) (length o)) R P o o' s s' r f k a q t)
 
 pub seal_ok : (f : Functions) (R : Run) (l t : List ℕ) (r : Result ℕ (Placed SessionFault)) → 1 ≤ length R.body → SealedBy (sealing_check R) f R l t r → SealFinished f R l t r
 seal_ok f R l t r n c =

@@ -8,6 +8,7 @@ use Rattle.fault.specs.declared.kinds.Placed.{Placed}
 use Rattle.fault.specs.Refusals.{Refusal}
 use Rattle.poet.specs.Bytes.{Block}
 use Rattle.poet.specs.Functions.{Functions, Lawful}
+use Rattle.poet.specs.Seal.{Seals}
 use Rattle.suite.specs.declared.Suite as suite
 use Rattle.suite.specs.declared.Permutation as permutation
 use Rattle.suite.specs.declared.ChainingHash as hash
@@ -22,14 +23,16 @@ use Rattle.session.specs.declared.rows.Way as way
 use Rattle.session.specs.declared.types.Session.{Session}
 use Rattle.session.specs.declared.types.Heading.{Heading}
 use Rattle.session.specs.Directions.{Direction, sealing, opening}
-use Rattle.session.specs.Runs.{Run, fresh, finished}
+use Rattle.session.specs.Runs.{Run, fresh, finished, last_of}
 use Rattle.session.specs.Promise.{Blocks, AgreesWith}
-use Rattle.session.specs.Sessions.{HeadingAt, SessionAt, held, writes, sealing_check, opening_check, SealedBy, OpenedBy}
+use Rattle.session.specs.Sessions.{HeadingAt, SessionAt, held, writes, sealing_check, opening_check}
+use Rattle.session.proofs.ByChecks.{SealedBy, OpenedBy}
 use Rattle.session.specs.Scripts.{run_of, headers_taken, header_answers, held_of, body_answers}
 use Rattle.session.specs.Playing.{HeaderPlayed, BodyPlayed}
-use Rattle.session.specs.Logs.{FinishKept, last_of}
+use Rattle.session.specs.Logs.{FinishKept}
 use Rattle.session.specs.Plays.{HeldBack, LastHanded, SealEnds, OpenVerdict, OpenEnds, SealPromise, OpenPromise, SealingPlayed, OpeningPlayed, tag_of}
-use Rattle.session.proofs.Promises.{blocks, agrees, seal_long}
+use Rattle.session.proofs.Promises.{blocks, agrees, seal_long, sealed_blocks}
+use Rattle.session.proofs.Nothing.{seal_end_passes}
 use Rattle.session.proofs.Stepping.{held_back, held_same}
 
 -- a finish that hands out nothing leaves the run as it was
@@ -45,20 +48,20 @@ last_handed R last o h a z = record {
 }
 
 -- a finish of a sealing: the last bytes belong to the run, and what it promises
-sealed_end : (o : Option (Refusal SessionFault)) (f : Functions) (R : Run) (last tag : List ℕ) (r : Result ℕ (Placed SessionFault)) → Lawful f → Blocks sealing f R → HeldBack R → held R ≡ held_of (length R.body) → SealedBy o f R last tag r
+sealed_end : (o : Option (Refusal SessionFault)) (f : Functions) (R : Run) (last tag : List ℕ) (r : Result ℕ (Placed SessionFault)) → Lawful f → Blocks sealing f R → HeldBack R → held R ≡ held_of (length R.body) → ((C T : List ℕ) → Seals f R.header R.body C T → o ≡ None) → SealedBy o f R last tag r
     → Blocks sealing f (finished R (last_of r last)) × SealEnds o f (finished R (last_of r last)) r last tag
-sealed_end None f R last tag r l b o h s =
+sealed_end None f R last tag r l b o h n s =
     subst (λ (i : Result ℕ (Placed SessionFault)). Blocks sealing f (finished R (last_of i last)) × SealEnds None f (finished R (last_of i last)) i last tag) (sym s.answer)
-    (s.blocks, (ap Ok h, s.seals, last_handed R last o h (seal_long f l _ _ _ _ s.seals) s.zeros))
-sealed_end (Some e) f R last tag (Ok n) l b o h s = absurd s.0
-sealed_end (Some e) f R last tag (Err x) l b o h s = (subst (Blocks sealing f) (sym (nothing_more R)) b, (s.0, s.1, s.2, subst HeldBack (sym (nothing_more R)) o))
+    ((sealed_blocks f l R.key R.header R.body (R.out ++ take (held R) last) tag s.seals).0, (ap Ok h, s.seals, last_handed R last o h (seal_long f l _ _ _ _ s.seals) s.zeros))
+sealed_end (Some e) f R last tag (Ok m) l b o h n s = absurd s.0
+sealed_end (Some e) f R last tag (Err x) l b o h n s = (subst (Blocks sealing f) (sym (nothing_more R)) b, (s.0, s.1, s.2, (λ C T p. let i = n C T p in absurd cc), subst HeldBack (sym (nothing_more R)) o))
 
 -- the same of an opening
 opened_end : (o : Option (Refusal SessionFault)) (f : Functions) (R : Run) (T last : List ℕ) (r : Result ℕ (Placed SessionFault)) → Lawful f → Blocks opening f R → HeldBack R → held R ≡ held_of (length R.body) → OpenedBy o f R T last r
     → Blocks opening f (finished R (last_of r last)) × OpenEnds o f (finished R (last_of r last)) T r last
 opened_end None f R T last (Ok n) l b o h s =
     subst (λ (i : ℕ). Blocks opening f (finished R (take i last)) × OpenVerdict f (finished R (take i last)) T (Ok i) last) (sym s.0)
-    (s.1.blocks, (h, s.1.seals, s.1.only, last_handed R last o h (sym (seal_long f l _ _ _ _ s.1.seals)) s.1.zeros))
+    ((sealed_blocks f l R.key R.header (R.out ++ take (held R) last) R.body T s.1.seals).1, (h, s.1.seals, s.1.only, last_handed R last o h (sym (seal_long f l _ _ _ _ s.1.seals)) s.1.zeros))
 opened_end None f R T last (Err e) l b o h s = (subst (Blocks opening f) (sym (nothing_more R)) b, (s.fault, s.none, s.zeros, subst HeldBack (sym (nothing_more R)) o))
 opened_end (Some e) f R T last (Ok n) l b o h s = absurd s.0
 opened_end (Some e) f R T last (Err x) l b o h s = (subst (Blocks opening f) (sym (nothing_more R)) b, (s.0, s.1, s.2, subst HeldBack (sym (nothing_more R)) o))
@@ -94,7 +97,7 @@ module _ {A W B C D : Type 0} {u : suite.Ghosts A B C D} {x : permutation.Ghosts
         let c = N.at key a in
         let l = L key c.taken.key_block in
         let R = run_of key p₁ in
-        let q = sealed_end (sealing_check R) (u.under key) R last tag r l (stood we key c) (held_back L R s₁ c) (held_same L R s₁ c) (S R c) in
+        let q = sealed_end (sealing_check R) (u.under key) R last tag r l (stood we key c) (held_back L R s₁ c) (held_same L R s₁ c) (seal_end_passes (u.under key) R) (S R c) in
         let run = finished_run key last r p₁ p₂ F in
         let b : Blocks sealing (u.under key) (run_of key p₂) = subst (Blocks sealing (u.under key)) run q.0 in
         record {

@@ -5,21 +5,21 @@ use Rattle.fault.specs.declared.kinds.SessionFault.{SessionFault}
 use Rattle.fault.specs.declared.kinds.SessionFault.TheVariants.{Forged, Tag}
 use Rattle.fault.specs.declared.kinds.Placed.{Placed}
 use Rattle.fault.specs.declared.kinds.Layer.TheVariants.{Session as SessionLayer}
-use Rattle.fault.specs.Refusals.{refusal, IsRefusal, session_faults}
+use Rattle.fault.specs.Refusals.{refusal, IsRefusal, RefusedBy, session_faults}
 use Rattle.poet.specs.Bytes.{Bytes, Block}
 use Rattle.poet.specs.Functions.{Functions, Lawful}
 use Rattle.poet.specs.Seal.{Limits, Seals}
 use Rattle.poet.specs.Rows.{ends, cipher, tag, opened}
 use Rattle.poet.proofs.Computing.{computing_law}
-use Rattle.poet.proofs.Accepting.{opening_law}
-use Rattle.session.specs.Calls.{answered, tag_check, forged}
+use Rattle.poet.proofs.Accepting.{opening_law, tag_law}
+use Rattle.session.specs.Calls.{tag_check, forged}
 use Rattle.session.specs.Directions.{Direction, sealing, opening}
 use Rattle.session.specs.Runs.{Run}
-use Rattle.session.specs.Sessions.{Taken, rows_of, held, SealFinished, OpenFinished, OpenRefused, OpenedBy, opening_check}
+use Rattle.session.specs.Sessions.{Taken, rows_of, held, opening_check}
+use Rattle.session.proofs.ByChecks.{SealFinished, OpenFinished, OpenRefused, OpenedBy}
 use Rattle.session.specs.Steps.{Tested}
 use Rattle.session.proofs.Endings.{last_bytes}
-use Rattle.session.proofs.Promises.{blocks, agrees, sealed_blocks}
-use Rattle.session.proofs.Passing.{answered_ok, only_none}
+use Rattle.session.proofs.Passing.{none_failed, only_none}
 use Rattle.session.proofs.Stretches.{out_length}
 
 pub limits : (R : Run) → Taken R → 1 ≤ length R.body → length R.body ≤ 1048576 → Limits R.header R.body
@@ -45,8 +45,6 @@ module _ (f : Functions) (L : Lawful f) (R : Run) (t : Taken R) (lim : Limits R.
       record {
         answer = ap Ok (le ∙ sym (held_is f L sealing R t oe));
         seals = seals;
-        blocks = (sealed_blocks f L R.key R.header R.body (R.out ++ take (held R) l) T seals).0;
-        agrees = agrees sealing f L _ (sealed_blocks f L R.key R.header R.body (R.out ++ take (held R) l) T seals).0;
         zeros = b.1;
       }
 
@@ -60,8 +58,6 @@ module _ (f : Functions) (L : Lawful f) (R : Run) (t : Taken R) (lim : Limits R.
         record {
           seals = seals;
           only = λ n p. O.only n p ∙ sym m;
-          blocks = (sealed_blocks f L R.key R.header (R.out ++ take (held R) l) R.body T seals).1;
-          agrees = agrees opening f L _ (sealed_blocks f L R.key R.header (R.out ++ take (held R) l) R.body T seals).1;
           zeros = b.1;
         },
       )
@@ -70,16 +66,13 @@ open_refused : (f : Functions) (L : Lawful f) (R : Run) → Taken R → R.out �
     → IsRefusal session_faults (forged (length R.body)) e' → OpenRefused f R T l' e'
 open_refused f L R t oe lim T G s l' e' z ee =
     let O = opening_law f L R.header R.body T in
-    record { fault = ee; none = λ m p. let a = O.accepts.1 (m, p) in s (record { fill = a.fill; check = a.check }); blocks = blocks f L opening R t oe; agrees = agrees opening f L R (blocks f L opening R t oe); zeros = z }
+    record { fault = ee; none = λ m p. let a = O.accepts.1 (m, p) in s (record { fill = a.fill; check = a.check }); zeros = z }
 
 -- an opening's finish, once the tag has passed its check: T is the tag given, and T' what the check answered
 module _ (f : Functions) (L : Lawful f) (R : Run) (t : Taken R) (total : ℕ) (te : total ≡ length R.body) (some : 1 ≤ total) (most : total ≤ 1048576) (T T' : List ℕ) (tb : Bytes T)
-    (ok : Ok T' ≡ answered (tag_check T total) T) (oe : R.out ≡ (rows_of opening f R).out) where
-  passes_tag : (tag_check T total ≡ None) × (T' ≡ T)
-  passes_tag = answered_ok (tag_check T total) T T' ok
-
+    (ok : RefusedBy session_faults (tag_check T total) (Ok T')) (same : T' ≡ T) (oe : R.out ≡ (rows_of opening f R).out) where
   sixteen : eqb (length T) 16 ≡ true
-  sixteen = only_none (eqb (length T) 16) _ passes_tag.0
+  sixteen = only_none (eqb (length T) 16) _ (none_failed session_faults (tag_check T total) T' ok)
 
   taken_some : eqb (length R.body) 0 ≡ false
   taken_some = ne_eqb (length R.body) 0 (λ z. omega arith)
@@ -91,7 +84,7 @@ module _ (f : Functions) (L : Lawful f) (R : Run) (t : Taken R) (total : ℕ) (t
   tag_block = record { long = eqb-true (length T) 16 sixteen; bytes = tb }
 
   same_tag : (o : Option (List ℕ)) → Tested f R.header R.body T' (rows_of opening f R).out o → Tested f R.header R.body T (rows_of opening f R).out o
-  same_tag o s = subst (λ (u : List ℕ). Tested f R.header R.body u (rows_of opening f R).out o) passes_tag.1 s
+  same_tag o s = subst (λ (u : List ℕ). Tested f R.header R.body u (rows_of opening f R).out o) same s
 
   pub opening_accepts : (len : ℕ) (g q l : List ℕ) (j : ℕ) → Tested f R.header R.body T' (rows_of opening f R).out (Some g) → len ≡ ends R.body → length g ≡ 16 → j ≡ len → q ≡ take j g → l ≡ take 16 (q ++ replicate 16 0)
       → OpenedBy (opening_check R T) f R T l (Ok len)
@@ -101,21 +94,19 @@ module _ (f : Functions) (L : Lawful f) (R : Run) (t : Taken R) (total : ℕ) (t
   opening_refuses s =
       rw (taken_some, sixteen) (open_refused f L R t oe lim T (rows_of opening f R).out (same_tag None s) (replicate 16 0) (record { fault = Forged; place = total }) refl (record { is = ap (λ n. record { fault = Forged; place = n }) te; number = refl; layer = refl }))
 
--- no message seals to no ciphertext, or with a tag of another length
+-- a tag that is refused
+tag_by : (b : Bool) (n : ℕ) (e : Placed SessionFault) → RefusedBy {X = List ℕ} session_faults (cond b None (Some (refusal Tag 8 SessionLayer n))) (Err e) → (b ≡ false) × IsRefusal session_faults (refusal Tag 8 SessionLayer n) e
+tag_by true n e h = absurd cc
+tag_by false n e h = (refl, h)
+
+pub tag_refused : (f : Functions) (R : Run) (T : List ℕ) (place : ℕ) (e : Placed SessionFault) → Lawful f → 1 ≤ length R.body → place ≡ length R.body → RefusedBy {X = List ℕ} session_faults (tag_check T place) (Err e)
+    → OpenedBy (opening_check R T) f R T (replicate 16 0) (Err e)
+tag_refused f R T place e L some pe h =
+    let r = tag_by (eqb (length T) 16) (length R.body) e (subst (λ (i : ℕ). RefusedBy {X = List ℕ} session_faults (tag_check T i) (Err e)) pe h) in
+    let a : eqb (length R.body) 0 ≡ false = ne_eqb (length R.body) 0 (λ z. omega arith) in
+    let b : eqb (length T) 16 ≡ false = r.0 in
+    rw (a, b) (r.1, refl, (λ M s. eqb-false (length T) 16 b (tag_law f L R.header M R.body T s).tag.long))
+
+-- where no body was taken nothing seals
 pub none_empty : (f : Functions) → Lawful f → (R : Run) (T : List ℕ) → length R.body ≡ 0 → (M : List ℕ) → Seals f R.header M R.body T → ⊥
-none_empty f L R T e M s = let a = (opening_law f L R.header R.body T).accepts.1 (M, s) in let b = a.limits.some in omega arith
-
-pub none_tag : (f : Functions) → Lawful f → (R : Run) (T : List ℕ) → (length T ≡ 16 → ⊥) → (M : List ℕ) → Seals f R.header M R.body T → ⊥
-none_tag f L R T e M s = let a = (opening_law f L R.header R.body T).accepts.1 (M, s) in e a.tag_block.long
-
-tag_of_none : (b : Bool) (T : List ℕ) (place : ℕ) (e : Placed SessionFault) → Err e ≡ answered (cond b None (Some (refusal Tag 8 SessionLayer place))) T → (b ≡ false) × (e ≡ record { fault = Tag; place = place })
-tag_of_none true T place e h = cc
-tag_of_none false T place e h = (refl, cc)
-
-pub tag_refused : (T : List ℕ) (place n : ℕ) (e : Placed SessionFault) → place ≡ n → Err e ≡ answered (tag_check T place) T → (length T ≡ 16 → ⊥) × IsRefusal session_faults (refusal Tag 8 SessionLayer n) e
-tag_refused T place n e pe h =
-    let r = tag_of_none (eqb (length T) 16) T place e h in
-    let f : e.fault ≡ Tag = ap (λ (x : Placed SessionFault). x.fault) r.1 in (
-      (λ n. eqb-false (length T) 16 r.0 n),
-      record { is = r.1 ∙ ap (λ (i : ℕ). record { fault = Tag; place = i }) pe; number = ap session_faults.number f; layer = ap session_faults.layer f },
-    )
+none_empty f L R T e M s = let a = (tag_law f L R.header M R.body T s).ciphertext in let b = s.limits.some in omega arith

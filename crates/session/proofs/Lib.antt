@@ -3,12 +3,14 @@ pub mod Runs
 pub mod Starts
 pub mod Stretches
 pub mod Endings
+pub mod Promises
+pub mod ByChecks
+pub mod Nothing
 pub mod Finishing
 pub mod Passing
 pub mod Calling
 pub mod Straights
 pub mod Judging
-pub mod Promises
 pub mod Stepping
 pub mod Playings
 pub mod Courses

@@ -1,17 +1,24 @@
 -- Checks that are passed.
-use Rattle.std.proofs.Common.{◌≡◌, ℕ, Bool, true, false, cond, eqb, ltb, List, length, Some, None, Ok, Option, refl}
+use Rattle.std.proofs.Common.{◌≡◌, ℕ, Bool, true, false, cond, eqb, ltb, List, length, Some, None, Ok, Err, Option, refl, ap}
 use Rattle.std.specs.Option.{option_or, option_map}
 use Rattle.fault.specs.declared.kinds.SessionFault.{SessionFault}
 use Rattle.fault.specs.declared.kinds.KeyFault.{KeyFault}
 use Rattle.fault.specs.declared.kinds.SessionFault.TheVariants.{Key}
-use Rattle.fault.specs.Refusals.{Refusal, inside}
+use Rattle.fault.specs.declared.kinds.Placed.{Placed}
+use Rattle.fault.specs.Refusals.{Table, Refusal, RefusedBy, inside, HandedOn, key_faults, session_faults}
+use Rattle.fault.proofs.Refusing.{handed_on}
 use Rattle.poet.specs.Seal.{header_most, body_most}
-use Rattle.session.specs.Calls.{key_check, body_checks, checks, answered}
+use Rattle.session.specs.Calls.{key_check, body_checks, checks}
 
 -- an answer comes only where no check fails
-pub answered_ok : {F X : Type 0} (o : Option (Refusal F)) (x y : X) → Ok y ≡ answered o x → (o ≡ None) × (y ≡ x)
-answered_ok None x y e = (refl, cc)
-answered_ok (Some f) x y e = absurd cc
+pub none_failed : {F X : Type 0} (t : Table F) (o : Option (Refusal F)) (x : X) → RefusedBy t o (Ok x) → o ≡ None
+none_failed t None x r = refl
+none_failed t (Some e) x r = absurd r
+
+-- a refusal is that of the check that failed, whatever the call would have answered
+pub some_failed : {F : Type 0} (X Y : Type 0) (t : Table F) (o : Option (Refusal F)) (p : Placed F) → RefusedBy {X = X} t o (Err p) → RefusedBy {X = Y} t o (Err p)
+some_failed X Y t None p r = r
+some_failed X Y t (Some e) p r = r
 
 first_none : {F : Type 0} (t : Bool) (e : F) (rest : Option F) → cond t (Some e) rest ≡ None → (t ≡ false) × (rest ≡ None)
 first_none true e rest p = absurd cc
@@ -40,6 +47,27 @@ passed H M r more p =
 behind : (o : Option (Refusal KeyFault)) (rest : Option (Refusal SessionFault)) → option_or (option_map (inside Key) o) rest ≡ None → (o ≡ None) × (rest ≡ None)
 behind None rest p = (refl, p)
 behind (Some e) rest p = absurd cc
+
+-- a refusal of the key, and one of what comes behind it
+pub key_failed : (o : Option (Refusal KeyFault)) (rest : Option (Refusal SessionFault)) (k : Placed KeyFault) (p : Placed SessionFault) → RefusedBy {X = Unit {0}} key_faults o (Err k) → HandedOn key_faults session_faults Key k p
+    → RefusedBy {X = ℕ} session_faults (option_or (option_map (inside Key) o) rest) (Err p)
+key_failed None rest k p r h = absurd cc
+key_failed (Some e) rest k p r h = handed_on key_faults session_faults Key e k p h r
+
+pub key_passed : (key H M : List ℕ) (r : ℕ) (more : Option (Refusal SessionFault)) → key_check key ≡ None → checks key H M r more ≡ body_checks H M r more
+key_passed key H M r more e = ap (λ o. option_or (option_map (inside Key) o) (body_checks H M r more)) e
+
+first_failed : (t : Bool) (e : Refusal SessionFault) (rest rest' : Option (Refusal SessionFault)) (p : Placed SessionFault) → (RefusedBy {X = ℕ} session_faults rest (Err p) → RefusedBy {X = ℕ} session_faults rest' (Err p))
+    → RefusedBy {X = ℕ} session_faults (cond t (Some e) rest) (Err p) → RefusedBy {X = ℕ} session_faults (cond t (Some e) rest') (Err p)
+first_failed true e rest rest' p f r = r
+first_failed false e rest rest' p f r = f r
+
+pub body_failed : (H M : List ℕ) (r : ℕ) (more : Option (Refusal SessionFault)) (p : Placed SessionFault) → RefusedBy {X = ℕ} session_faults (body_checks H M r None) (Err p) → RefusedBy {X = ℕ} session_faults (body_checks H M r more) (Err p)
+body_failed H M r more p =
+    first_failed (ltb header_most (length H)) _ _ _ p
+    (first_failed (ltb body_most (length M)) _ _ _ p
+    (first_failed (ltb r (length M)) _ _ _ p
+    (first_failed (eqb (length M) 0) _ _ _ p (λ i. absurd cc))))
 
 pub passed_by : (key H M : List ℕ) (r : ℕ) (more : Option (Refusal SessionFault)) → checks key H M r more ≡ None → Passed H M r
 passed_by key H M r more p = passed H M r more (behind (key_check key) (body_checks H M r more) p).1

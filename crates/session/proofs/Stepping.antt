@@ -18,7 +18,8 @@ use Rattle.session.specs.declared.rows.Way as way
 use Rattle.session.specs.declared.types.Session.{Session}
 use Rattle.session.specs.Calls.{answered}
 use Rattle.session.specs.Runs.{Run}
-use Rattle.session.specs.Sessions.{HeadingAt, HeaderBy, header_check, SessionAt, BodyBy, body_check, held, given_of, writes}
+use Rattle.session.specs.Sessions.{HeadingAt, header_check, SessionAt, body_check, held, given_of, writes}
+use Rattle.session.proofs.ByChecks.{HeaderBy, BodyBy}
 use Rattle.session.specs.Scripts.{run_of, taken, held_of, body_check_of}
 use Rattle.session.specs.Logs.{kept, written_of, HeaderKept, BodyKept}
 use Rattle.session.specs.Playing.{HeaderPlayed, BodyPlayed}

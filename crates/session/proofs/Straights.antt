@@ -7,7 +7,6 @@ use Rattle.fault.specs.declared.kinds.SessionFault.{SessionFault}
 use Rattle.fault.specs.declared.kinds.Placed.{Placed}
 use Rattle.poet.specs.Functions.{Functions}
 use Rattle.poet.specs.Seal.{Seals}
-use Rattle.session.specs.Calls.{Sealed, Opened}
 use Rattle.suite.specs.declared.Suite as suite
 use Rattle.suite.specs.declared.Permutation as permutation
 use Rattle.suite.specs.declared.ChainingHash as hash
@@ -15,8 +14,9 @@ use Rattle.suite.specs.declared.HeaderDigest as digest
 use Rattle.session.specs.declared.rows.Way as way
 use Rattle.session.specs.declared.types.Session.{Session}
 use Rattle.session.specs.Runs.{fresh, headed}
-use Rattle.session.specs.Sessions.{held, writes, given_of, BodyTaken, SealFinished, OpenJudged}
-use Rattle.session.specs.Straight.{run, Begun, OpenRefusal}
+use Rattle.session.specs.Sessions.{held, writes, given_of}
+use Rattle.session.proofs.ByChecks.{BodyTaken, SealFinished, OpenJudged}
+use Rattle.session.specs.Straight.{Sealed, Opened, run, Begun, OpenRefusal}
 
 -- the header and the body were taken by a new session
 pub begun : {A W B C D : Type 0} {u : suite.Ghosts A B C D} {p : permutation.Ghosts B} {h : hash.Ghosts C} {d : digest.Ghosts D} {w : way.Ghosts W} (key H a o o' : List ℕ) (s : Session A W B C D u p h d w) (n : ℕ × ℕ) → BodyTaken (headed (fresh key) H) a o o' s (Ok n)

@@ -1,5 +1,5 @@
 -- What the calls for whole buffers do: which refusal they give, or what they write.
-use Rattle.std.specs.Prelude.{◌≡◌, ℕ, if◌then◌else◌, List, ◌++◌, length, take, drop, replicate, Some, None, Ok, Err, Option, Result, ◌==◌, nat_lt}
+use Rattle.std.specs.Prelude.{◌≡◌, ℕ, ◌≤◌, ◌↔◌, if◌then◌else◌, List, ◌++◌, length, take, drop, replicate, Some, None, Ok, Err, IsOk, IfOk, IfErr, OnErr, Option, Result, ◌==◌, nat_lt}
 use Rattle.std.specs.Option.{option_or, option_map}
 use Rattle.fault.specs.declared.kinds.Layer.TheVariants.{Key as KeyLayer, Session as SessionLayer}
 use Rattle.fault.specs.declared.kinds.KeyFault.{KeyFault}
@@ -7,7 +7,7 @@ use Rattle.fault.specs.declared.kinds.KeyFault.TheVariants.{Length}
 use Rattle.fault.specs.declared.kinds.SessionFault.{SessionFault}
 use Rattle.fault.specs.declared.kinds.SessionFault.TheVariants.{Key, Header, Body, Room, Empty, Tag, Forged}
 use Rattle.fault.specs.declared.kinds.Placed.{Placed}
-use Rattle.fault.specs.Refusals.{Refusal, refusal, placed, inside, IsRefusal, Refuses, key_faults, session_faults}
+use Rattle.fault.specs.Refusals.{Refusal, refusal, placed, inside, IsRefusal, Refuses, RefusedBy, session_faults}
 use Rattle.poet.specs.Functions.{Functions}
 use Rattle.poet.specs.Seal.{header_most, body_most, Seals}
 
@@ -42,48 +42,32 @@ open_checks key H C T o = checks key H C (length o) (tag_check T 0)
 abbrev pub forged : (n : ℕ) → Refusal SessionFault
 forged n = refusal Forged 9 SessionLayer n
 
--- A key put into a place b, which becomes b'.
-abbrev pub FillBy : Option (Refusal KeyFault) → (key b b' : List ℕ) → Result (Unit {0}) (Placed KeyFault) → Type 0
-FillBy (Some e) key b b' r = Refuses key_faults e r × (b' ≡ b)
-FillBy None key b b' r = (r ≡ Ok tt) × (b' ≡ key)
-
 -- a refusal, or the answer x
 abbrev pub answered : {F X : Type 0} → Option (Refusal F) → X → Result X (Placed F)
 answered (Some e) x = Err (placed e)
 answered None x = Ok x
 
--- Sealing, under the functions that `under` gives for a key. The buffers o and t become o' and t'.
--- A check that fails is answered, and nothing is altered. Else the seal of M stands in the first bytes of o', and in t'.
-pub record Sealed (f : Functions) (H M o o' t' : List ℕ) : Type 0 where
-  pub seals : Seals f H M (take (length M) o') t'
+-- A sealing that answers r, under the functions that `under` gives for a key; the buffers o and t became o' and t'.
+pub record SealCall (under : List ℕ → Functions) (key H M o t o' t' : List ℕ) (r : Result ℕ (Placed SessionFault)) : Type 0 where
+  -- it refuses as the first check that fails
+  pub refused : RefusedBy session_faults (seal_checks key H M o) r
+  -- and alters nothing then
+  pub unaltered : OnErr r ((o' ≡ o) × (t' ≡ t))
+  -- else the seal of M stands in the first bytes of o', and in t'
+  pub seals : IfOk r (λ n. (n ≡ length M) × Seals (under key) H M (take n o') t')
   pub rest : drop (length M) o' ≡ drop (length M) o
+  -- with a key and room enough, it seals exactly what has a seal
+  pub accepts : length key ≡ 16 → length M ≤ length o → IsOk r ↔ ((C : List ℕ) × (T : List ℕ) × Seals (under key) H M C T)
 
-abbrev pub SealingBy : Option (Refusal SessionFault) → (f : Functions) (H M o t o' t' : List ℕ) → Result ℕ (Placed SessionFault) → Type 0
-SealingBy (Some e) f H M o t o' t' r = Refuses session_faults e r × (o' ≡ o) × (t' ≡ t)
-SealingBy None f H M o t o' t' r = (r ≡ Ok (length M)) × Sealed f H M o o' t'
-
-abbrev pub SealCall : (List ℕ → Functions) → (key H M o t o' t' : List ℕ) → Result ℕ (Placed SessionFault) → Type 0
-SealCall under key H M o t o' t' r = SealingBy (seal_checks key H M o) (under key) H M o t o' t' r
-
--- Opening. It accepts exactly if some message seals to C and T under H; then that message stands in the first bytes of o', and every
--- message that seals so equals it. Else it leaves as many zeros as C has bytes. The rest of o is unaltered.
-pub record Opened (f : Functions) (H C T o o' : List ℕ) : Type 0 where
-  pub seals : Seals f H (take (length C) o') C T
-  pub only : (M : List ℕ) → Seals f H M C T → M ≡ take (length C) o'
+-- An opening that answers r; the buffer o became o'.
+pub record OpenCall (under : List ℕ → Functions) (key H C T o o' : List ℕ) (r : Result ℕ (Placed SessionFault)) : Type 0 where
+  -- it refuses as the first check that fails, and alters nothing then
+  pub refused : (e : Refusal SessionFault) → open_checks key H C T o ≡ Some e → Refuses session_faults e r × (o' ≡ o)
+  -- with a key and room enough, it accepts exactly what some message seals to
+  pub accepts : length key ≡ 16 → length C ≤ length o → IsOk r ↔ ((M : List ℕ) × Seals (under key) H M C T)
+  -- then that message stands in the first bytes of o', and it is the only one
+  pub message : IfOk r (λ n. (n ≡ length C) × Seals (under key) H (take n o') C T)
+  pub only : IfOk r (λ n. (M : List ℕ) → Seals (under key) H M C T → M ≡ take n o')
+  -- where no check fails it refuses a forgery, and leaves as many zeros as C has bytes
+  pub forgery : open_checks key H C T o ≡ None → IfErr r (λ e. IsRefusal session_faults (forged (length C)) e × (o' ≡ replicate (length C) 0 ++ drop (length C) o))
   pub rest : drop (length C) o' ≡ drop (length C) o
-
-pub record Refused (f : Functions) (H C T o o' : List ℕ) (e : Placed SessionFault) : Type 0 where
-  pub fault : IsRefusal session_faults (forged (length C)) e
-  pub none : (M : List ℕ) → Seals f H M C T → ⊥
-  pub zeros : o' ≡ replicate (length C) 0 ++ drop (length C) o
-
-abbrev pub Judged : (f : Functions) (H C T o o' : List ℕ) → Result ℕ (Placed SessionFault) → Type 0
-Judged f H C T o o' (Ok n) = (n ≡ length C) × Opened f H C T o o'
-Judged f H C T o o' (Err e) = Refused f H C T o o' e
-
-abbrev pub OpeningBy : Option (Refusal SessionFault) → (f : Functions) (H C T o o' : List ℕ) → Result ℕ (Placed SessionFault) → Type 0
-OpeningBy (Some e) f H C T o o' r = Refuses session_faults e r × (o' ≡ o)
-OpeningBy None f H C T o o' r = Judged f H C T o o' r
-
-abbrev pub OpenCall : (List ℕ → Functions) → (key H C T o o' : List ℕ) → Result ℕ (Placed SessionFault) → Type 0
-OpenCall under key H C T o o' r = OpeningBy (open_checks key H C T o) (under key) H C T o o' r

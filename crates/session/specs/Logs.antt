@@ -3,6 +3,7 @@ use Rattle.std.specs.Prelude.{◌≡◌, ℕ, List, [], ◌∷◌, ◌++◌, tak
 use Rattle.fault.specs.declared.kinds.SessionFault.{SessionFault}
 use Rattle.fault.specs.declared.kinds.Placed.{Placed}
 use Rattle.session.specs.declared.logs.Played.{Played}
+use Rattle.session.specs.Runs.{last_of}
 use Rattle.session.specs.declared.script.Answer.TheVariants.{Header, Body, Finish}
 
 -- the bytes that a call brought, if it was heeded
@@ -14,11 +15,6 @@ kept (Err e) P = []
 abbrev pub written_of : Result (ℕ × ℕ) (Placed SessionFault) → List ℕ → List ℕ
 written_of (Ok n) b = take n.0 b
 written_of (Err e) b = []
-
--- the front of the place that a finish wrote to
-abbrev pub last_of : Result ℕ (Placed SessionFault) → List ℕ → List ℕ
-last_of (Ok n) last = take n last
-last_of (Err e) last = []
 
 pub record HeaderKept (r : Result (Unit {0}) (Placed SessionFault)) (P : List ℕ) (p p' : Played) : Type 0 where
   pub header : vec_items p'.header ≡ vec_items p.header ++ kept r P

@@ -39,7 +39,7 @@ pub record LastHanded (R : Run) (last : List ℕ) : Type 0 where
 
 -- The finish of a sealing, by its check: its answer, its two places and the run.
 abbrev pub SealEnds : Option (Refusal SessionFault) → (f : Functions) (R : Run) (r : Result ℕ (Placed SessionFault)) (last tag : List ℕ) → Type 0
-SealEnds (Some e) f R r last tag = Refuses session_faults e r × (last ≡ replicate 16 0) × (tag ≡ replicate 16 0) × HeldBack R
+SealEnds (Some e) f R r last tag = Refuses session_faults e r × (last ≡ replicate 16 0) × (tag ≡ replicate 16 0) × ((C T : List ℕ) → Seals f R.header R.body C T → ⊥) × HeldBack R
 SealEnds None f R r last tag = (r ≡ Ok (held_of (length R.body))) × Seals f R.header R.body R.out tag × LastHanded R last
 
 -- The finish of an opening with the tag T: accepted exactly if some message seals so; that message was handed out, and it is the only one.

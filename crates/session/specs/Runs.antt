@@ -1,5 +1,7 @@
 -- A run: what a session took and handed out so far.
-use Rattle.std.specs.Prelude.{ℕ, List, [], ◌++◌}
+use Rattle.std.specs.Prelude.{ℕ, List, [], ◌++◌, take, Ok, Err, Result}
+use Rattle.fault.specs.declared.kinds.SessionFault.{SessionFault}
+use Rattle.fault.specs.declared.kinds.Placed.{Placed}
 
 -- Taken are the bytes of the calls that were not refused, in order; handed out are the bytes that such body calls wrote, in order, and
 -- then the last bytes of a finish that was accepted.
@@ -22,3 +24,12 @@ bodied R p g = record { key = R.key; header = R.header; body = R.body ++ p; out 
 -- a finish that was accepted hands out the last bytes
 abbrev pub finished : Run → List ℕ → Run
 finished R g = record { key = R.key; header = R.header; body = R.body; out = R.out ++ g }
+
+-- the front of the place that a finish wrote to
+abbrev pub last_of : Result ℕ (Placed SessionFault) → List ℕ → List ℕ
+last_of (Ok n) last = take n last
+last_of (Err e) last = []
+
+-- the run once a finish answered r and left `last` in its place
+abbrev pub ended : Run → Result ℕ (Placed SessionFault) → (last : List ℕ) → Run
+ended R r last = finished R (last_of r last)

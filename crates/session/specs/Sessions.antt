@@ -1,13 +1,12 @@
 -- Where a session stands after a run, and what each of its calls does.
-use Rattle.std.specs.Prelude.{◌≡◌, ℕ, ◌+◌, ◌-◌, ◌*◌, ◌/◌, ◌≤◌, if◌then◌else◌, List, [], ◌++◌, length, take, drop, replicate, Some, None, Ok, Err, Option, Result, ◌==◌, nat_lt}
+use Rattle.std.specs.Prelude.{◌≡◌, ℕ, ◌+◌, ◌-◌, ◌*◌, ◌/◌, ◌≤◌, if◌then◌else◌, List, [], ◌++◌, length, drop, Some, None, Option, ◌==◌, nat_lt}
 use Rattle.fault.specs.declared.kinds.Layer.TheVariants.{Session as SessionLayer}
 use Rattle.fault.specs.declared.kinds.SessionFault.{SessionFault}
 use Rattle.fault.specs.declared.kinds.SessionFault.TheVariants.{Header, Body, Room, Empty}
-use Rattle.fault.specs.declared.kinds.Placed.{Placed}
-use Rattle.fault.specs.Refusals.{Refusal, refusal, IsRefusal, Refuses, session_faults}
+use Rattle.fault.specs.Refusals.{Refusal, refusal}
 use Rattle.poet.specs.Bytes.{Bytes, Block}
 use Rattle.poet.specs.Functions.{Functions}
-use Rattle.poet.specs.Seal.{header_most, body_most, Seals}
+use Rattle.poet.specs.Seal.{header_most, body_most}
 use Rattle.poet.specs.Rows.{State, rows, whole, start}
 use Rattle.suite.specs.declared.Suite as suite
 use Rattle.suite.specs.declared.Permutation as permutation
@@ -17,10 +16,9 @@ use Rattle.session.specs.declared.types.Heading.{Heading}
 use Rattle.session.specs.declared.rows.Way as way
 use Rattle.session.specs.declared.types.Session.{Session}
 use Rattle.session.specs.Engines.{EngineAt}
-use Rattle.session.specs.Calls.{tag_check, forged}
-use Rattle.session.specs.Directions.{Direction, sealing, opening, picks, turns}
-use Rattle.session.specs.Runs.{Run, headed, bodied, finished}
-use Rattle.session.specs.Promise.{Blocks, AgreesWith}
+use Rattle.session.specs.Calls.{tag_check}
+use Rattle.session.specs.Directions.{Direction, picks, turns}
+use Rattle.session.specs.Runs.{Run}
 
 -- what a run can have taken
 pub record Taken (R : Run) : Type 0 where
@@ -58,10 +56,6 @@ pub record SessionAt {A W B C D : Type 0} {u : suite.Ghosts A B C D} {p : permut
 abbrev pub header_check : (taken more : ℕ) → Option (Refusal SessionFault)
 header_check taken more = if nat_lt header_most (taken + more) then Some (refusal Header 4 SessionLayer taken) else None
 
-abbrev pub HeaderBy : {A B C D : Type 0} {u : suite.Ghosts A B C D} {p : permutation.Ghosts B} {h : hash.Ghosts C} {d : digest.Ghosts D} → Option (Refusal SessionFault) → Run → List ℕ → (s s' : Heading A B C D u p h d) → Result (Unit {0}) (Placed SessionFault) → Type 0
-HeaderBy (Some e) R P s s' r = Refuses session_faults e r × (s' ≡ s)
-HeaderBy None R P s s' r = (r ≡ Ok tt) × HeadingAt (headed R P) s'
-
 -- A body call brings `more` bytes; with t the bytes held and brought it writes every whole block that at least one byte follows.
 abbrev pub writes : ℕ → ℕ
 writes t = 16 * ((t - 1) / 16)
@@ -80,58 +74,11 @@ given_of t = (writes t, t - writes t)
 abbrev pub held : Run → ℕ
 held R = length R.body - length R.out
 
-pub record BodyTaken {A W B C D : Type 0} {u : suite.Ghosts A B C D} {p : permutation.Ghosts B} {h : hash.Ghosts C} {d : digest.Ghosts D} {w : way.Ghosts W} (R : Run) (P o o' : List ℕ) (s' : Session A W B C D u p h d w) (r : Result (ℕ × ℕ) (Placed SessionFault)) : Type 0 where
-  pub answer : r ≡ Ok (given_of (held R + length P))
-  pub rest : drop (writes (held R + length P)) o' ≡ drop (writes (held R + length P)) o
-  pub at : SessionAt (bodied R P (take (writes (held R + length P)) o')) s'
-  pub blocks : Blocks w.way (u.under R.key) (bodied R P (take (writes (held R + length P)) o'))
-  pub agrees : AgreesWith w.way (u.under R.key) (bodied R P (take (writes (held R + length P)) o'))
-
-abbrev pub BodyBy : {A W B C D : Type 0} {u : suite.Ghosts A B C D} {p : permutation.Ghosts B} {h : hash.Ghosts C} {d : digest.Ghosts D} {w : way.Ghosts W} → Option (Refusal SessionFault) → Run → (P o o' : List ℕ) → (s s' : Session A W B C D u p h d w) → Result (ℕ × ℕ) (Placed SessionFault) → Type 0
-BodyBy (Some e) R P o o' s s' r = Refuses session_faults e r × (s' ≡ s) × (o' ≡ o)
-BodyBy None R P o o' s s' r = BodyTaken R P o o' s' r
-
--- A sealing's finish is refused where no body was taken. It writes zeros into its places l' and t' then. Else it hands out the last
--- bytes, which were held back, and writes the tag: together the seal of the message taken.
+-- A finish is refused where no body was taken, and an opening's where the tag has not sixteen bytes.
 abbrev pub sealing_check : Run → Option (Refusal SessionFault)
 sealing_check R = if length R.body == 0 then Some (refusal Empty 7 SessionLayer 0) else None
 
-pub record SealFinished (f : Functions) (R : Run) (l' t' : List ℕ) (r : Result ℕ (Placed SessionFault)) : Type 0 where
-  pub answer : r ≡ Ok (held R)
-  pub seals : Seals f R.header R.body (R.out ++ take (held R) l') t'
-  pub blocks : Blocks sealing f (finished R (take (held R) l'))
-  pub agrees : AgreesWith sealing f (finished R (take (held R) l'))
-  pub zeros : drop (held R) l' ≡ replicate (16 - held R) 0
-
-abbrev pub SealedBy : Option (Refusal SessionFault) → (f : Functions) → Run → (l' t' : List ℕ) → Result ℕ (Placed SessionFault) → Type 0
-SealedBy (Some e) f R l' t' r = Refuses session_faults e r × (l' ≡ replicate 16 0) × (t' ≡ replicate 16 0)
-SealedBy None f R l' t' r = SealFinished f R l' t' r
-
--- An opening's finish is refused where no body was taken, where the tag has not sixteen bytes, and where no message seals to the ciphertext
--- taken and the tag given. It leaves zeros in its place l' then. Else what it handed out with the last bytes is that message, and the only one.
 abbrev pub opening_check : Run → (T : List ℕ) → Option (Refusal SessionFault)
 opening_check R T =
     if length R.body == 0 then Some (refusal Empty 7 SessionLayer 0)
     else tag_check T (length R.body)
-
-pub record OpenFinished (f : Functions) (R : Run) (T l' : List ℕ) : Type 0 where
-  pub seals : Seals f R.header (R.out ++ take (held R) l') R.body T
-  pub only : (M : List ℕ) → Seals f R.header M R.body T → M ≡ R.out ++ take (held R) l'
-  pub blocks : Blocks opening f (finished R (take (held R) l'))
-  pub agrees : AgreesWith opening f (finished R (take (held R) l'))
-  pub zeros : drop (held R) l' ≡ replicate (16 - held R) 0
-
-pub record OpenRefused (f : Functions) (R : Run) (T l' : List ℕ) (e : Placed SessionFault) : Type 0 where
-  pub fault : IsRefusal session_faults (forged (length R.body)) e
-  pub none : (M : List ℕ) → Seals f R.header M R.body T → ⊥
-  pub blocks : Blocks opening f R
-  pub agrees : AgreesWith opening f R
-  pub zeros : l' ≡ replicate 16 0
-
-abbrev pub OpenJudged : (f : Functions) → Run → (T l' : List ℕ) → Result ℕ (Placed SessionFault) → Type 0
-OpenJudged f R T l' (Ok n) = (n ≡ held R) × OpenFinished f R T l'
-OpenJudged f R T l' (Err e) = OpenRefused f R T l' e
-
-abbrev pub OpenedBy : Option (Refusal SessionFault) → (f : Functions) → Run → (T l' : List ℕ) → Result ℕ (Placed SessionFault) → Type 0
-OpenedBy (Some e) f R T l' r = Refuses session_faults e r × (l' ≡ replicate 16 0) × ((M : List ℕ) → Seals f R.header M R.body T → ⊥)
-OpenedBy None f R T l' r = OpenJudged f R T l' r

@@ -11,9 +11,20 @@ use Rattle.suite.specs.declared.ChainingHash as hash
 use Rattle.suite.specs.declared.HeaderDigest as digest
 use Rattle.session.specs.declared.rows.Way as way
 use Rattle.session.specs.declared.types.Session.{Session}
-use Rattle.session.specs.Calls.{forged, Sealed, Opened}
+use Rattle.session.specs.Calls.{forged}
 use Rattle.session.specs.Runs.{Run}
 use Rattle.session.specs.Sessions.{SessionAt, writes}
+
+-- the seal of M stands in the first bytes of o', which was o, and in t'
+pub record Sealed (f : Functions) (H M o o' t' : List ℕ) : Type 0 where
+  pub seals : Seals f H M (take (length M) o') t'
+  pub rest : drop (length M) o' ≡ drop (length M) o
+
+-- the message that seals to C and T stands in the first bytes of o', and it is the only one
+pub record Opened (f : Functions) (H C T o o' : List ℕ) : Type 0 where
+  pub seals : Seals f H (take (length C) o') C T
+  pub only : (M : List ℕ) → Seals f H M C T → M ≡ take (length C) o'
+  pub rest : drop (length C) o' ≡ drop (length C) o
 
 -- the run of a session that took the header H and the body a, and gave the front of o'
 abbrev pub run : (key H a o' : List ℕ) → Run

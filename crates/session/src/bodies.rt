@@ -1,7 +1,9 @@
 // The body call, of a sealing as of an opening.
-ghost use Rattle.std.specs.Prelude.{◌≤◌, length, IfOk};
-ghost use Rattle.session.specs.Runs.{Run};
-ghost use Rattle.session.specs.Sessions.{BodyBy, SessionAt, body_check, held};
+ghost use Rattle.std.specs.Prelude.{◌≡◌, ◌+◌, ◌≤◌, length, take, drop, IfOk, OnErr};
+ghost use Rattle.fault.specs.Refusals.{RefusedBy, session_faults};
+ghost use Rattle.session.specs.Promise.{AgreesWith, Blocks};
+ghost use Rattle.session.specs.Runs.{Run, bodied};
+ghost use Rattle.session.specs.Sessions.{SessionAt, body_check, given_of, held};
 
 use crate::checks::BODY_MOST;
 use crate::rows::Way;
@@ -18,7 +20,19 @@ impl<S: Suite, W: Way> Session<S, W> {
         out: &mut [u8],
     ) -> Result<(usize, usize), Placed<SessionFault>>
         ensures room { IfOk result (λ n. n.0 ≤ length out.old) }
-        ensures call { (R : Run) → SessionAt R self.old → BodyBy (body_check (length R.body) (held R) (length input.now) (length out.old)) R input.now out.old out.new self.old self.new result }
+        ensures refused { (R : Run) → SessionAt R self.old
+            → RefusedBy session_faults (body_check (length R.body) (held R) (length input.now) (length out.old)) result }
+        ensures unaltered { OnErr result ((self.new ≡ self.old) × (out.new ≡ out.old)) }
+        ensures answer { (R : Run) → SessionAt R self.old
+            → IfOk result (λ n. n ≡ given_of (held R + length input.now)) }
+        ensures rest { (R : Run) → SessionAt R self.old
+            → IfOk result (λ n. drop n.0 out.new ≡ drop n.0 out.old) }
+        ensures taken { (R : Run) → SessionAt R self.old
+            → IfOk result (λ n. SessionAt (bodied R input.now (take n.0 out.new)) self.new) }
+        ensures blocks { (R : Run) → SessionAt R self.old
+            → IfOk result (λ n. Blocks W.Way.way (S.Suite.under R.key) (bodied R input.now (take n.0 out.new))) }
+        ensures two_runs { (R : Run) → SessionAt R self.old
+            → IfOk result (λ n. AgreesWith W.Way.way (S.Suite.under R.key) (bodied R input.now (take n.0 out.new))) }
     {
         if input.len() > BODY_MOST - self.total {
             return Err(Placed {

@@ -1,6 +1,7 @@
 // What a call for whole buffers tests before it takes anything.
-ghost use Rattle.std.specs.Prelude.{◌≡◌, None};
-ghost use Rattle.session.specs.Calls.{answered, body_checks, tag_check};
+ghost use Rattle.std.specs.Prelude.{◌≡◌, IfOk, None};
+ghost use Rattle.fault.specs.Refusals.{RefusedBy, session_faults};
+ghost use Rattle.session.specs.Calls.{body_checks, tag_check};
 
 use fault::kinds::{Placed, SessionFault};
 
@@ -10,7 +11,7 @@ pub(crate) const BODY_MOST: usize = 1048576;
 
 // Whether header, body and room pass; `room` is the number of bytes that the caller's buffer has.
 pub(crate) fn checked(header: &[u8], body: &[u8], room: usize) -> Result<(), Placed<SessionFault>>
-    ensures { result ≡ answered (body_checks header.now body.now room None) tt }
+    ensures { RefusedBy session_faults (body_checks header.now body.now room None) result }
 {
     if header.len() > HEADER_MOST {
         return Err(Placed {
@@ -41,7 +42,8 @@ pub(crate) fn checked(header: &[u8], body: &[u8], room: usize) -> Result<(), Pla
 
 // The tag, if it has sixteen bytes; `place` is the place of a refusal.
 pub(crate) fn tag_bytes(tag: &[u8], place: usize) -> Result<[u8; 16], Placed<SessionFault>>
-    ensures { result ≡ answered (tag_check tag.now place) tag.now }
+    ensures refused { RefusedBy session_faults (tag_check tag.now place) result }
+    ensures same { IfOk result (λ t. t ≡ tag.now) }
 {
     <[u8; 16]>::try_from(tag).map_err(|_| Placed {
         fault: SessionFault::Tag,

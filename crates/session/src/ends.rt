@@ -1,8 +1,13 @@
 // The end of a sealing and of an opening.
-ghost use Rattle.std.specs.Prelude.{◌≤◌, IfOk};
-ghost use Rattle.session.specs.Directions.{opening};
-ghost use Rattle.session.specs.Runs.{Run};
-ghost use Rattle.session.specs.Sessions.{OpenedBy, SealedBy, SessionAt, opening_check, rows_of, sealing_check};
+ghost use Rattle.std.specs.Prelude.{◌≡◌, ◌-◌, ◌≤◌, ◌↔◌, List, ℕ, ◌++◌, length, take, drop, replicate, IfErr, IfOk, IsOk, OnErr};
+ghost use Rattle.fault.specs.declared.kinds.SessionFault.{SessionFault};
+ghost use Rattle.fault.specs.Refusals.{IsRefusal, Refusal, RefusedBy, Refuses, session_faults};
+ghost use Rattle.poet.specs.Seal.{Seals};
+ghost use Rattle.session.specs.Calls.{forged};
+ghost use Rattle.session.specs.Directions.{opening, sealing};
+ghost use Rattle.session.specs.Promise.{AgreesWith, Blocks};
+ghost use Rattle.session.specs.Runs.{Run, ended};
+ghost use Rattle.session.specs.Sessions.{SessionAt, held, opening_check, rows_of, sealing_check};
 ghost use Rattle.session.specs.Steps.{Tested};
 
 use crate::blocks::same;
@@ -22,7 +27,18 @@ impl<S: Suite> Sealing<S> {
         tag: &mut [u8; 16],
     ) -> Result<usize, Placed<SessionFault>>
         ensures few { IfOk result (λ n. n ≤ 16) }
-        ensures call { (R : Run) → SessionAt R self → SealedBy (sealing_check R) (S.Suite.under R.key) R last.new tag.new result }
+        ensures refused { (R : Run) → SessionAt R self → RefusedBy session_faults (sealing_check R) result }
+        ensures cleared { OnErr result ((last.new ≡ replicate 16 0) × (tag.new ≡ replicate 16 0)) }
+        ensures seals { (R : Run) → SessionAt R self
+            → IfOk result (λ n. (n ≡ held R) × Seals (S.Suite.under R.key) R.header R.body (R.out ++ take n last.new) tag.new) }
+        ensures zeros { (R : Run) → SessionAt R self
+            → IfOk result (λ n. drop n last.new ≡ replicate (16 - n) 0) }
+        ensures accepts { (R : Run) → SessionAt R self
+            → IsOk result ↔ ((C : List ℕ) × (T : List ℕ) × Seals (S.Suite.under R.key) R.header R.body C T) }
+        ensures blocks { (R : Run) → SessionAt R self
+            → Blocks sealing (S.Suite.under R.key) (ended R result last.new) }
+        ensures two_runs { (R : Run) → SessionAt R self
+            → AgreesWith sealing (S.Suite.under R.key) (ended R result last.new) }
     {
         if self.total == 0 {
             *last = [0; 16];
@@ -63,7 +79,24 @@ impl<S: Suite> Opening<S> {
     // zeros alone. Answers how many bytes they are.
     pub fn finish(self, tag: &[u8], last: &mut [u8; 16]) -> Result<usize, Placed<SessionFault>>
         ensures few { IfOk result (λ n. n ≤ 16) }
-        ensures call { (R : Run) → SessionAt R self → OpenedBy (opening_check R tag.now) (S.Suite.under R.key) R tag.now last.new result }
+        ensures refused { (R : Run) → SessionAt R self
+            → (e : Refusal SessionFault) → opening_check R tag.now ≡ Some e → Refuses session_faults e result }
+        ensures forgery { (R : Run) → SessionAt R self
+            → opening_check R tag.now ≡ None
+            → IfErr result (IsRefusal session_faults (forged (length R.body))) }
+        ensures cleared { OnErr result (last.new ≡ replicate 16 0) }
+        ensures accepts { (R : Run) → SessionAt R self
+            → IsOk result ↔ ((M : List ℕ) × Seals (S.Suite.under R.key) R.header M R.body tag.now) }
+        ensures message { (R : Run) → SessionAt R self
+            → IfOk result (λ n. (n ≡ held R) × Seals (S.Suite.under R.key) R.header (R.out ++ take n last.new) R.body tag.now) }
+        ensures only { (R : Run) → SessionAt R self
+            → IfOk result (λ n. (M : List ℕ) → Seals (S.Suite.under R.key) R.header M R.body tag.now → M ≡ R.out ++ take n last.new) }
+        ensures zeros { (R : Run) → SessionAt R self
+            → IfOk result (λ n. drop n last.new ≡ replicate (16 - n) 0) }
+        ensures blocks { (R : Run) → SessionAt R self
+            → Blocks opening (S.Suite.under R.key) (ended R result last.new) }
+        ensures two_runs { (R : Run) → SessionAt R self
+            → AgreesWith opening (S.Suite.under R.key) (ended R result last.new) }
     {
         *last = [0; 16];
         if self.total == 0 {

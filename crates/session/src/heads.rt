@@ -1,7 +1,8 @@
 // The calls of a heading, and the start of a body.
-ghost use Rattle.std.specs.Prelude.{ℕ, List, length};
-ghost use Rattle.session.specs.Runs.{Run, fresh};
-ghost use Rattle.session.specs.Sessions.{HeaderBy, HeadingAt, SessionAt, header_check};
+ghost use Rattle.std.specs.Prelude.{◌≡◌, ℕ, List, length, OnErr, OnOk};
+ghost use Rattle.fault.specs.Refusals.{RefusedBy, session_faults};
+ghost use Rattle.session.specs.Runs.{Run, fresh, headed};
+ghost use Rattle.session.specs.Sessions.{HeadingAt, SessionAt, header_check};
 
 use crate::checks::HEADER_MOST;
 use crate::engine::Engine;
@@ -40,7 +41,11 @@ impl<S: Suite> Heading<S> {
 
     // Adds bytes to the header.
     pub fn header(&mut self, p: &[u8]) -> Result<(), Placed<SessionFault>>
-        ensures { (R : Run) → HeadingAt R self.old → HeaderBy (header_check (length R.header) (length p.now)) R p.now self.old self.new result }
+        ensures refused { (R : Run) → HeadingAt R self.old
+            → RefusedBy session_faults (header_check (length R.header) (length p.now)) result }
+        ensures unaltered { OnErr result (self.new ≡ self.old) }
+        ensures taken { (R : Run) → HeadingAt R self.old
+            → OnOk result (HeadingAt (headed R p.now) self.new) }
     {
         if p.len() > HEADER_MOST - self.count {
             return Err(Placed {

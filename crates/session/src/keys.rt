@@ -1,6 +1,7 @@
 // The place of the caller's that a key is put into.
-ghost use Rattle.std.specs.Prelude.{◌≡◌, replicate};
-ghost use Rattle.session.specs.Calls.{FillBy, key_check};
+ghost use Rattle.std.specs.Prelude.{◌≡◌, replicate, OnErr, OnOk};
+ghost use Rattle.fault.specs.Refusals.{RefusedBy, key_faults};
+ghost use Rattle.session.specs.Calls.{key_check};
 
 use fault::kinds::{KeyFault, Placed};
 
@@ -19,7 +20,9 @@ impl KeyPlace {
 
     // Puts a key in, if it has sixteen bytes.
     pub fn fill(&mut self, key: &[u8]) -> Result<(), Placed<KeyFault>>
-        ensures { FillBy (key_check key.now) key.now self.old.bytes self.new.bytes result }
+        ensures refused { RefusedBy key_faults (key_check key.now) result }
+        ensures unaltered { OnErr result (self.new.bytes ≡ self.old.bytes) }
+        ensures filled { OnOk result (self.new.bytes ≡ key.now) }
     {
         if key.len() != 16 {
             return Err(Placed {

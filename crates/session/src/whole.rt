@@ -1,6 +1,10 @@
 // Sealing and opening of whole buffers in one call. Each makes its own checks, and a refusal leaves every buffer as it was, but for a
 // forged message, which leaves zeros where the message would have stood.
-ghost use Rattle.session.specs.Calls.{OpenCall, SealCall};
+ghost use Rattle.std.specs.Prelude.{◌≡◌, ◌≤◌, ◌↔◌, ℕ, List, ◌++◌, length, take, drop, replicate, IfErr, IfOk, IsOk, OnErr};
+ghost use Rattle.fault.specs.declared.kinds.SessionFault.{SessionFault};
+ghost use Rattle.fault.specs.Refusals.{IsRefusal, Refusal, RefusedBy, Refuses, session_faults};
+ghost use Rattle.poet.specs.Seal.{Seals};
+ghost use Rattle.session.specs.Calls.{forged, open_checks, seal_checks};
 
 use crate::checks::{checked, tag_bytes};
 use crate::keys::KeyPlace;
@@ -17,7 +21,14 @@ pub fn seal<S: Suite>(
     out: &mut [u8],
     tag: &mut [u8; 16],
 ) -> Result<usize, Placed<SessionFault>>
-    ensures { SealCall S.Suite.under key.now header.now message.now out.old tag.old out.new tag.new result }
+    ensures refused { RefusedBy session_faults (seal_checks key.now header.now message.now out.old) result }
+    ensures unaltered { OnErr result ((out.new ≡ out.old) × (tag.new ≡ tag.old)) }
+    ensures seals { IfOk result (λ n.
+        (n ≡ length message.now)
+        × Seals (S.Suite.under key.now) header.now message.now (take n out.new) tag.new) }
+    ensures rest { drop (length message.now) out.new ≡ drop (length message.now) out.old }
+    ensures accepts { length key.now ≡ 16 → length message.now ≤ length out.old
+        → IsOk result ↔ ((C : List ℕ) × (T : List ℕ) × Seals (S.Suite.under key.now) header.now message.now C T) }
 {
     let mut place = KeyPlace::new();
     place.fill(key)?;
@@ -34,7 +45,20 @@ pub fn open<S: Suite>(
     tag: &[u8],
     out: &mut [u8],
 ) -> Result<usize, Placed<SessionFault>>
-    ensures { OpenCall S.Suite.under key.now header.now ciphertext.now tag.now out.old out.new result }
+    ensures refused { (e : Refusal SessionFault) → open_checks key.now header.now ciphertext.now tag.now out.old ≡ Some e
+        → Refuses session_faults e result × (out.new ≡ out.old) }
+    ensures accepts { length key.now ≡ 16 → length ciphertext.now ≤ length out.old
+        → IsOk result ↔ ((M : List ℕ) × Seals (S.Suite.under key.now) header.now M ciphertext.now tag.now) }
+    ensures message { IfOk result (λ n.
+        (n ≡ length ciphertext.now)
+        × Seals (S.Suite.under key.now) header.now (take n out.new) ciphertext.now tag.now) }
+    ensures only { IfOk result (λ n.
+        (M : List ℕ) → Seals (S.Suite.under key.now) header.now M ciphertext.now tag.now → M ≡ take n out.new) }
+    ensures forgery { open_checks key.now header.now ciphertext.now tag.now out.old ≡ None
+        → IfErr result (λ e.
+        IsRefusal session_faults (forged (length ciphertext.now)) e
+        × (out.new ≡ replicate (length ciphertext.now) 0 ++ drop (length ciphertext.now) out.old)) }
+    ensures rest { drop (length ciphertext.now) out.new ≡ drop (length ciphertext.now) out.old }
 {
     let mut place = KeyPlace::new();
     place.fill(key)?;

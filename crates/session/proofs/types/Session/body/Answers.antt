@@ -1,15 +1,15 @@
-use Rattle.std.proofs.Common.{◌≡◌, ℕ, ◌+◌, ◌*◌, ◌/◌, true, false, ltb, ◌++◌, length, take, drop, Ok, refl, ap, ap₂, arith, length-append, length-drop, length-take, rules, le-ltb, lt-ltb}
+use Rattle.std.proofs.Common.{◌≡◌, ℕ, ◌+◌, ◌*◌, ◌/◌, true, false, ltb, ◌++◌, length, take, drop, refl, ap, ap₂, arith, length-append, length-drop, length-take, rules, le-ltb, lt-ltb}
 use Rattle.poet.specs.Rows.{whole, start}
 use Rattle.poet.proofs.Xors.{bytes_append, bytes_from}
 use Rattle.session.specs.Directions.{picks, turns}
-use Rattle.session.specs.Runs.{bodied}
-use Rattle.session.specs.Sessions.{Taken, held, writes}
+use Rattle.session.specs.Runs.{Run, bodied}
+use Rattle.session.specs.Sessions.{Taken, SessionAt, held, writes}
 use Rattle.session.proofs.Promises.{blocks, agrees}
 use Rattle.session.proofs.Stretches.{out_length, stretched, left}
 use Rattle.session.proofs.types.Session.body.Goals as goal
 
-pub returns-then-out-written-clause-call : goal.returns-then-out-written-clause-call
-returns-then-out-written-clause-call g c =
+pub returns-then-out-written-clause-refused : goal.returns-then-out-written-clause-refused
+returns-then-out-written-clause-refused g c =
     λ R a.
     let f = g.S.Suite.under R.key in
     let P = c.args.input.now in
@@ -19,50 +19,61 @@ returns-then-out-written-clause-call g c =
     let o = out_length f (g.met.S.Suite.lawful R.key a.taken.key_block) g.W.Way.way R a.taken.header_bytes a.taken.body_bytes a.out_is in
     let e : ltb 1048576 (length R.body + length P) ≡ false = le-ltb 1048576 (length R.body + length P) (omega arith) in
     let d : ltb (length c.args.out.now) (writes (held R + length P)) ≡ true = lt-ltb (length c.args.out.now) (writes (held R + length P)) (omega arith) in
-    rw (e, d) (record { is = cc; number = refl; layer = refl }, refl, refl)
+    rw (e, d) (record { is = cc; number = refl; layer = refl })
 
-pub returns-clause-call : goal.returns-clause-call
-returns-clause-call g c =
-    λ R a.
-    let f = g.S.Suite.under R.key in
-    let M = R.body in
+pub returns : goal.returns
+returns g c =
     let P = c.args.input.now in
-    let k = a.total_is in
+    let s = c.args.self.now in
     let m = ap length c.as_slice.ensures.bytes in
     let v = c.saturating_sub-n.ensures in
-    let l = length-append M P in
-    let L = g.met.S.Suite.lawful R.key a.taken.key_block in
-    let o = out_length f L g.W.Way.way R a.taken.header_bytes a.taken.body_bytes a.out_is in
-    let e : ltb 1048576 (length M + length P) ≡ false = le-ltb 1048576 (length M + length P) (omega arith) in
-    let d : ltb (length c.args.out.now) (writes (held R + length P)) ≡ false = le-ltb (length c.args.out.now) (writes (held R + length P)) (omega arith) in
-    let s = c.args.self.now in
     let n : ℕ = c.saturating_sub-n.result / 16 in
-    let g₁ : writes (held R + length P) ≡ 16 * n = omega arith in
-    let w : whole (M ++ P) ≡ whole M + n = omega arith in
-    let u : s.held ++ P ≡ drop (16 * whole M) M ++ P = ap (λ z. z ++ P) a.held_is in
-    let ran = c.run-self.ensures.ran f R.header a.engine in
-    let q = stretched (picks g.W.Way.way f.enc f.dec) f.chain (turns g.W.Way.way (start f R.header)) M P (s.held ++ P) n u w _ _ _ _ R.out a.x_is a.y_is a.out_is ran in
-    let hr : held R ≡ length s.held = omega arith in
-    let T : Taken (bodied R P (take (16 * n) c.run-self.new.out)) = record {
+    let o = λ (R : Run) (a : SessionAt R s). out_length (g.S.Suite.under R.key) (g.met.S.Suite.lawful R.key a.taken.key_block) g.W.Way.way R a.taken.header_bytes a.taken.body_bytes a.out_is in
+    let on : (R : Run) → SessionAt R s → whole (R.body ++ P) ≡ whole R.body + n = λ R a. let k = a.total_is in let l = length-append R.body P in omega arith in
+    let ran = λ (R : Run) (a : SessionAt R s). c.run-self.ensures.ran (g.S.Suite.under R.key) R.header a.engine in
+    let q =
+    λ (R : Run) (a : SessionAt R s).
+    let f = g.S.Suite.under R.key in
+    stretched (picks g.W.Way.way f.enc f.dec) f.chain (turns g.W.Way.way (start f R.header)) R.body P (s.held ++ P) n (ap (λ z. z ++ P) a.held_is) (on R a) _ _ _ _ R.out a.x_is a.y_is a.out_is (ran R a) in
+    let T : (R : Run) → SessionAt R s → Taken (bodied R P (take (16 * n) c.run-self.new.out)) =
+    λ R a.
+    record {
       key_block = a.taken.key_block;
       header_bytes = a.taken.header_bytes;
       header_most = a.taken.header_most;
-      body_bytes = bytes_append M P a.taken.body_bytes (bytes_from P (λ i j. search rules));
+      body_bytes = bytes_append R.body P a.taken.body_bytes (bytes_from P (λ i j. search rules));
     } in
-    rw (e, d) record {
-      answer = ap₂ (λ (i j : ℕ). Ok (i, j)) (omega arith) (omega arith);
-      rest = rw g₁ ran.rest;
-      at = rw g₁ record {
-        taken = T;
-        engine = a.engine;
-        x_is = q.0;
-        y_is = q.1;
-        out_is = q.2;
-        held_is = left (picks g.W.Way.way f.enc f.dec) f.chain (turns g.W.Way.way (start f R.header)) M P (s.held ++ P) n u w _ c.run-self.ensures.left;
-        total_is = omega arith;
-      };
-      blocks = rw g₁ (blocks f L g.W.Way.way (bodied R P (take (16 * n) c.run-self.new.out)) T q.2);
-      agrees = rw g₁ (agrees g.W.Way.way f L (bodied R P (take (16 * n) c.run-self.new.out)) (blocks f L g.W.Way.way (bodied R P (take (16 * n) c.run-self.new.out)) T q.2));
+    let b =
+    λ (R : Run) (a : SessionAt R s).
+    blocks (g.S.Suite.under R.key) (g.met.S.Suite.lawful R.key a.taken.key_block) g.W.Way.way (bodied R P (take (16 * n) c.run-self.new.out)) (T R a) (q R a).2 in
+    record {
+      room = omega arith;
+      refused =
+          λ R a.
+          let k = a.total_is in
+          let w = o R a in
+          let e : ltb 1048576 (length R.body + length P) ≡ false = le-ltb 1048576 (length R.body + length P) (omega arith) in
+          let d : ltb (length c.args.out.now) (writes (held R + length P)) ≡ false = le-ltb (length c.args.out.now) (writes (held R + length P)) (omega arith) in
+          rw (e, d);
+      unaltered = tt;
+      answer = λ R a. let k = a.total_is in let w = o R a in ap₂ (λ (i j : ℕ). (i, j)) (omega arith) (omega arith);
+      rest = λ R a. (ran R a).rest;
+      taken =
+          λ R a.
+          let f = g.S.Suite.under R.key in
+          let k = a.total_is in
+          let l = length-append R.body P in
+          record {
+            taken = T R a;
+            engine = a.engine;
+            x_is = (q R a).0;
+            y_is = (q R a).1;
+            out_is = (q R a).2;
+            held_is = left (picks g.W.Way.way f.enc f.dec) f.chain (turns g.W.Way.way (start f R.header)) R.body P (s.held ++ P) n (ap (λ z. z ++ P) a.held_is) (on R a) _ c.run-self.ensures.left;
+            total_is = omega arith;
+          };
+      blocks = b;
+      two_runs = λ R a. agrees g.W.Way.way (g.S.Suite.under R.key) (g.met.S.Suite.lawful R.key a.taken.key_block) _ (b R a);
     }
 
 pub invariant_of-self : goal.invariant_of-self
