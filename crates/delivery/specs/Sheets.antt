@@ -1,5 +1,5 @@
 -- Opening a delivered sheet: a list of entries, written and sealed under a key and a header.
-use Rattle.std.specs.Prelude.{◌≡◌, ℕ, ◌<◌, ◌⊎◌, List, ◌++◌, length, take, drop, replicate, Some, None, Ok, Err, Option, Result}
+use Rattle.std.specs.Prelude.{◌≡◌, ℕ, ◌<◌, ◌≤◌, ◌⊎◌, ◌↔◌, List, ◌++◌, length, take, drop, replicate, Some, None, Ok, Err, IsOk, IfOk, IfErr, Option, Result}
 use Rattle.fault.specs.declared.kinds.SessionFault.{SessionFault}
 use Rattle.fault.specs.declared.kinds.SheetFault.{SheetFault}
 use Rattle.fault.specs.declared.kinds.SheetFault.TheVariants.{Session}
@@ -32,21 +32,25 @@ pub record SheetOpened (f : Functions) (H C T o o' : List ℕ) (es : List Item) 
   pub front : take (length C) o' ≡ sheet_of es
   pub rest : drop (length C) o' ≡ drop (length C) o
 
--- Refused: no list seals so, since no message does, or since what was sealed is broken as a sheet. Zeros stand in the buffer.
+-- Refused where no check fails: no message seals so, or what was sealed is broken as a sheet. Zeros stand in the buffer.
 pub record SheetRefused (f : Functions) (H C T o o' : List ℕ) (e : Placed SheetFault) : Type 0 where
-  pub none : (fs : List Item) → SheetSeals f H fs C T → ⊥
-  pub why : (IsRefusal sheet_faults (lifted (forged (length C))) e × ((M : List ℕ) → Seals f H M C T → ⊥)) ⊎ ((M : List ℕ) × Seals f H M C T × Broken M e)
+  pub why : (IsRefusal sheet_faults (lifted (forged (length C))) e × ((M : List ℕ) → Seals f H M C T → ⊥))
+      ⊎ ((M : List ℕ) × Seals f H M C T × Broken M e)
   pub zeros : o' ≡ replicate (length C) 0 ++ drop (length C) o
 
--- Once the checks are passed, it accepts exactly if some list seals so, and answers how many entries it has.
-abbrev pub SheetJudged : (f : Functions) (H C T o o' : List ℕ) → Result ℕ (Placed SheetFault) → Type 0
-SheetJudged f H C T o o' (Ok n) = (es : List Item) × SheetOpened f H C T o o' es × (n ≡ length es)
-SheetJudged f H C T o o' (Err e) = SheetRefused f H C T o o' e
-
--- A check that fails is answered, and nothing is altered.
-abbrev pub SheetBy : Option (Refusal SessionFault) → (f : Functions) (H C T o o' : List ℕ) → Result ℕ (Placed SheetFault) → Type 0
-SheetBy (Some e) f H C T o o' r = Refuses sheet_faults (lifted e) r × (o' ≡ o)
-SheetBy None f H C T o o' r = SheetJudged f H C T o o' r
+-- An opening of a sheet that answers r, under the functions that `under` gives for a key; the buffer o became o'.
+pub record SheetCall (under : List ℕ → Functions) (key H C T o o' : List ℕ)
+    (r : Result ℕ (Placed SheetFault)) : Type 0 where
+  -- it refuses as the first check that fails, and alters nothing then
+  pub refused : (e : Refusal SessionFault) → open_checks key H C T o ≡ Some e
+      → Refuses sheet_faults (lifted e) r × (o' ≡ o)
+  -- with a key and room enough, it accepts exactly what some list seals to
+  pub accepts : length key ≡ 16 → length C ≤ length o
+      → IsOk r ↔ ((es : List Item) × SheetSeals (under key) H es C T)
+  -- then it answers how many entries that list has
+  pub entries : IfOk r (λ n. (es : List Item) × SheetOpened (under key) H C T o o' es × (n ≡ length es))
+  pub broken : open_checks key H C T o ≡ None → IfErr r (SheetRefused (under key) H C T o o')
+  pub rest : drop (length C) o' ≡ drop (length C) o
 
 -- the suite with the number n, or its refusal
 abbrev pub ToldSuite : (n : ℕ) → Result Listed (Placed SheetFault) → Type 0
@@ -56,7 +60,7 @@ ToldSuite n (Err e) = (suite_of n ≡ None) × IsRefusal sheet_faults (lifted (n
 -- opening under the suite with the number n
 abbrev pub SheetUnder : Option (List ℕ → Functions) → (n : ℕ) (key H C T o o' : List ℕ) → Result ℕ (Placed SheetFault) → Type 0
 SheetUnder None n key H C T o o' r = Refuses sheet_faults (lifted (not_listed n)) r × (o' ≡ o)
-SheetUnder (Some under) n key H C T o o' r = SheetBy (open_checks key H C T o) (under key) H C T o o' r
+SheetUnder (Some under) n key H C T o o' r = SheetCall under key H C T o o' r
 
 -- opening the sheet of a delivery with the parts p
 abbrev pub SheetOf : Parts → (o o' : List ℕ) → Result ℕ (Placed SheetFault) → Type 0

@@ -1,8 +1,12 @@
 // Sealing and opening of whole buffers under a suite that is told by its number. A number that is not listed is refused before every
 // other check.
-ghost use Rattle.delivery.specs.Told.{OpeningUnder, SealingUnder, suite_of};
+ghost use Rattle.std.specs.Prelude.{◌≡◌, IfNone, IfSome};
+ghost use Rattle.fault.specs.Refusals.{Refuses, session_faults};
+ghost use Rattle.session.specs.Calls.{OpenCall, SealCall};
+ghost use Rattle.delivery.specs.Told.{not_listed, suite_of};
 
 use fault::kinds::{Placed, SessionFault};
+use suite::Suite;
 use suites::listed::Listed;
 use suites::mirror::Mirror;
 use suites::shaft::Shaft;
@@ -17,15 +21,17 @@ pub fn seal(
     out: &mut [u8],
     tag: &mut [u8; 16],
 ) -> Result<usize, Placed<SessionFault>>
-    ensures { SealingUnder (suite_of suite) suite key.now header.now message.now out.old tag.old out.new tag.new result }
+    ensures unlisted { IfNone (suite_of suite)
+        (Refuses session_faults (not_listed suite) result
+        × (out.new ≡ out.old) × (tag.new ≡ tag.old)) }
+    ensures listed { IfSome (suite_of suite) (λ under. SealCall under
+        key.now header.now message.now out.old tag.old out.new tag.new result) }
 {
     match Listed::try_from(suite)? {
-        Listed::Shaft => session::whole::seal::<Shaft>(key, header, message, out, tag),
-        Listed::Submission4 => session::whole::seal::<Submission4>(key, header, message, out, tag),
-        Listed::Submission10 => session::whole::seal::<Submission10>(
-            key, header, message, out, tag,
-        ),
-        Listed::Mirror => session::whole::seal::<Mirror>(key, header, message, out, tag),
+        Listed::Shaft => sealed::<Shaft>(key, header, message, out, tag),
+        Listed::Submission4 => sealed::<Submission4>(key, header, message, out, tag),
+        Listed::Submission10 => sealed::<Submission10>(key, header, message, out, tag),
+        Listed::Mirror => sealed::<Mirror>(key, header, message, out, tag),
     }
 }
 
@@ -37,16 +43,42 @@ pub fn open(
     tag: &[u8],
     out: &mut [u8],
 ) -> Result<usize, Placed<SessionFault>>
-    ensures { OpeningUnder (suite_of suite) suite key.now header.now ciphertext.now tag.now out.old out.new result }
+    ensures unlisted { IfNone (suite_of suite)
+        (Refuses session_faults (not_listed suite) result × (out.new ≡ out.old)) }
+    ensures listed { IfSome (suite_of suite) (λ under. OpenCall under
+        key.now header.now ciphertext.now tag.now out.old out.new result) }
 {
     match Listed::try_from(suite)? {
-        Listed::Shaft => session::whole::open::<Shaft>(key, header, ciphertext, tag, out),
-        Listed::Submission4 => session::whole::open::<Submission4>(
-            key, header, ciphertext, tag, out,
-        ),
-        Listed::Submission10 => session::whole::open::<Submission10>(
-            key, header, ciphertext, tag, out,
-        ),
-        Listed::Mirror => session::whole::open::<Mirror>(key, header, ciphertext, tag, out),
+        Listed::Shaft => opened::<Shaft>(key, header, ciphertext, tag, out),
+        Listed::Submission4 => opened::<Submission4>(key, header, ciphertext, tag, out),
+        Listed::Submission10 => opened::<Submission10>(key, header, ciphertext, tag, out),
+        Listed::Mirror => opened::<Mirror>(key, header, ciphertext, tag, out),
     }
+}
+
+// The same under a suite that is a type, with all that its call says as one fact for the calls above.
+fn sealed<S: Suite>(
+    key: &[u8],
+    header: &[u8],
+    message: &[u8],
+    out: &mut [u8],
+    tag: &mut [u8; 16],
+) -> Result<usize, Placed<SessionFault>>
+    ensures { SealCall S.Suite.under
+        key.now header.now message.now out.old tag.old out.new tag.new result }
+{
+    session::whole::seal::<S>(key, header, message, out, tag)
+}
+
+fn opened<S: Suite>(
+    key: &[u8],
+    header: &[u8],
+    ciphertext: &[u8],
+    tag: &[u8],
+    out: &mut [u8],
+) -> Result<usize, Placed<SessionFault>>
+    ensures { OpenCall S.Suite.under
+        key.now header.now ciphertext.now tag.now out.old out.new result }
+{
+    session::whole::open::<S>(key, header, ciphertext, tag, out)
 }

@@ -1,7 +1,12 @@
 // Opening of a delivered sheet: the message is opened under a suite, and every entry of it is tested.
-ghost use Rattle.delivery.specs.Sheets.{SheetBy, SheetOf, ToldSuite};
+ghost use Rattle.std.specs.Prelude.{◌≡◌, ◌≤◌, ◌↔◌, ℕ, List, length, drop, IfErr, IfNone, IfOk, IfSome, IsOk};
+ghost use Rattle.fault.specs.declared.kinds.SessionFault.{SessionFault};
+ghost use Rattle.fault.specs.Refusals.{Refusal, Refuses, sheet_faults};
 ghost use Rattle.session.specs.Calls.{open_checks};
+ghost use Rattle.sheet.specs.Entries.{Item};
 ghost use Rattle.wire.specs.Wire.{parts_of};
+ghost use Rattle.delivery.specs.Told.{not_listed, suite_of};
+ghost use Rattle.delivery.specs.Sheets.{SheetCall, SheetOpened, SheetRefused, SheetSeals, ToldSuite, lifted};
 
 use fault::kinds::{Placed, SessionFault, SheetFault};
 use sheet::whole::test;
@@ -27,17 +32,18 @@ pub fn told(number: u8) -> Result<Listed, Placed<SheetFault>>
 
 // Opens a sheet into the front of `out`, and answers how many entries it has.
 pub fn open_sheet(d: Delivery<'_>, out: &mut [u8]) -> Result<usize, Placed<SheetFault>>
-    ensures { SheetOf (parts_of d.entry) out.old out.new result }
+    ensures unlisted { let p = parts_of d.entry in IfNone (suite_of p.suite)
+        (Refuses sheet_faults (lifted (not_listed p.suite)) result × (out.new ≡ out.old)) }
+    ensures listed { let p = parts_of d.entry in IfSome (suite_of p.suite) (λ under.
+        SheetCall under p.key p.header p.ciphertext p.tag out.old out.new result) }
 {
     match told(d.suite)? {
-        Listed::Shaft => open_sheet_as::<Shaft>(d.key, d.header, d.ciphertext, d.tag, out),
-        Listed::Submission4 => {
-            open_sheet_as::<Submission4>(d.key, d.header, d.ciphertext, d.tag, out)
-        }
+        Listed::Shaft => opened::<Shaft>(d.key, d.header, d.ciphertext, d.tag, out),
+        Listed::Submission4 => { opened::<Submission4>(d.key, d.header, d.ciphertext, d.tag, out) }
         Listed::Submission10 => {
-            open_sheet_as::<Submission10>(d.key, d.header, d.ciphertext, d.tag, out)
+            opened::<Submission10>(d.key, d.header, d.ciphertext, d.tag, out)
         }
-        Listed::Mirror => open_sheet_as::<Mirror>(d.key, d.header, d.ciphertext, d.tag, out),
+        Listed::Mirror => opened::<Mirror>(d.key, d.header, d.ciphertext, d.tag, out),
     }
 }
 
@@ -49,7 +55,19 @@ pub fn open_sheet_as<S: Suite>(
     tag: &[u8],
     out: &mut [u8],
 ) -> Result<usize, Placed<SheetFault>>
-    ensures { SheetBy (open_checks key.now header.now ciphertext.now tag.now out.old) (S.Suite.under key.now) header.now ciphertext.now tag.now out.old out.new result }
+    ensures refused { (e : Refusal SessionFault)
+        → open_checks key.now header.now ciphertext.now tag.now out.old ≡ Some e
+        → Refuses sheet_faults (lifted e) result × (out.new ≡ out.old) }
+    ensures accepts { length key.now ≡ 16 → length ciphertext.now ≤ length out.old
+        → IsOk result ↔ ((es : List Item)
+        × SheetSeals (S.Suite.under key.now) header.now es ciphertext.now tag.now) }
+    ensures entries { IfOk result (λ n. (es : List Item)
+        × SheetOpened (S.Suite.under key.now) header.now ciphertext.now tag.now out.old out.new es
+        × (n ≡ length es)) }
+    ensures broken { open_checks key.now header.now ciphertext.now tag.now out.old ≡ None
+        → IfErr result (SheetRefused (S.Suite.under key.now)
+        header.now ciphertext.now tag.now out.old out.new) }
+    ensures rest { drop (length ciphertext.now) out.new ≡ drop (length ciphertext.now) out.old }
 {
     let len = session::whole::open::<S>(key, header, ciphertext, tag, out)?;
     match test(&out[0..len]) {
@@ -59,4 +77,18 @@ pub fn open_sheet_as<S: Suite>(
             Err(fault)
         }
     }
+}
+
+// The same, with all that the call says as one fact for `open_sheet`.
+fn opened<S: Suite>(
+    key: &[u8],
+    header: &[u8],
+    ciphertext: &[u8],
+    tag: &[u8],
+    out: &mut [u8],
+) -> Result<usize, Placed<SheetFault>>
+    ensures { SheetCall S.Suite.under
+        key.now header.now ciphertext.now tag.now out.old out.new result }
+{
+    open_sheet_as::<S>(key, header, ciphertext, tag, out)
 }

@@ -1,5 +1,5 @@
 -- Checks that are passed.
-use Rattle.std.proofs.Common.{◌≡◌, ℕ, Bool, true, false, cond, eqb, ltb, List, length, Some, None, Ok, Err, Option, refl, ap}
+use Rattle.std.proofs.Common.{◌≡◌, ℕ, Bool, true, false, cond, eqb, ltb, List, length, Some, None, Ok, Err, Option, refl, ap, ◌≤◌, ltb-false, eqb-true}
 use Rattle.std.specs.Option.{option_or, option_map}
 use Rattle.fault.specs.declared.kinds.SessionFault.{SessionFault}
 use Rattle.fault.specs.declared.kinds.KeyFault.{KeyFault}
@@ -8,7 +8,7 @@ use Rattle.fault.specs.declared.kinds.Placed.{Placed}
 use Rattle.fault.specs.Refusals.{Table, Refusal, RefusedBy, inside, HandedOn, key_faults, session_faults}
 use Rattle.fault.proofs.Refusing.{handed_on}
 use Rattle.poet.specs.Seal.{header_most, body_most}
-use Rattle.session.specs.Calls.{key_check, body_checks, checks}
+use Rattle.session.specs.Calls.{key_check, tag_check, body_checks, checks, open_checks}
 
 -- an answer comes only where no check fails
 pub none_failed : {F X : Type 0} (t : Table F) (o : Option (Refusal F)) (x : X) → RefusedBy t o (Ok x) → o ≡ None
@@ -69,8 +69,17 @@ body_failed H M r more p =
     (first_failed (ltb r (length M)) _ _ _ p
     (first_failed (eqb (length M) 0) _ _ _ p (λ i. absurd cc))))
 
-pub passed_by : (key H M : List ℕ) (r : ℕ) (more : Option (Refusal SessionFault)) → checks key H M r more ≡ None → Passed H M r
-passed_by key H M r more p = passed H M r more (behind (key_check key) (body_checks H M r more) p).1
+-- the key and the room, where all checks of an opening are passed
+pub record Fits (key C o : List ℕ) : Type 0 where
+  pub sixteen : length key ≡ 16
+  pub room : length C ≤ length o
+
+pub fits : (key H C T o : List ℕ) → open_checks key H C T o ≡ None → Fits key C o
+fits key H C T o p =
+    let b = behind (key_check key) (body_checks H C (length o) (tag_check T 0)) p in record {
+      sixteen = eqb-true (length key) 16 (only_none (eqb (length key) 16) _ b.0);
+      room = ltb-false (length o) (length C) (passed H C (length o) (tag_check T 0) b.1).room;
+    }
 
 pub passes : (H M : List ℕ) (r : ℕ) (more : Option (Refusal SessionFault)) → Passed H M r → body_checks H M r more ≡ more
 passes H M r more p = rw (p.header, p.most, p.room, p.some)

@@ -48,26 +48,34 @@ answered (Some e) x = Err (placed e)
 answered None x = Ok x
 
 -- A sealing that answers r, under the functions that `under` gives for a key; the buffers o and t became o' and t'.
-pub record SealCall (under : List ℕ → Functions) (key H M o t o' t' : List ℕ) (r : Result ℕ (Placed SessionFault)) : Type 0 where
-  -- it refuses as the first check that fails
+pub record SealCall (under : List ℕ → Functions) (key H M o t o' t' : List ℕ)
+    (r : Result ℕ (Placed SessionFault)) : Type 0 where
+  -- it refuses exactly if a check fails, and then as the first of these
   pub refused : RefusedBy session_faults (seal_checks key H M o) r
   -- and alters nothing then
   pub unaltered : OnErr r ((o' ≡ o) × (t' ≡ t))
-  -- else the seal of M stands in the first bytes of o', and in t'
+  -- with a key and room enough, it seals exactly what has a seal
+  pub accepts : length key ≡ 16 → length M ≤ length o
+      → IsOk r ↔ ((C : List ℕ) × (T : List ℕ) × Seals (under key) H M C T)
+  -- then that seal stands in the first bytes of o', and in t'
   pub seals : IfOk r (λ n. (n ≡ length M) × Seals (under key) H M (take n o') t')
   pub rest : drop (length M) o' ≡ drop (length M) o
-  -- with a key and room enough, it seals exactly what has a seal
-  pub accepts : length key ≡ 16 → length M ≤ length o → IsOk r ↔ ((C : List ℕ) × (T : List ℕ) × Seals (under key) H M C T)
+  pub room : IfOk r (λ n. n ≤ length o)
 
 -- An opening that answers r; the buffer o became o'.
-pub record OpenCall (under : List ℕ → Functions) (key H C T o o' : List ℕ) (r : Result ℕ (Placed SessionFault)) : Type 0 where
+pub record OpenCall (under : List ℕ → Functions) (key H C T o o' : List ℕ)
+    (r : Result ℕ (Placed SessionFault)) : Type 0 where
   -- it refuses as the first check that fails, and alters nothing then
   pub refused : (e : Refusal SessionFault) → open_checks key H C T o ≡ Some e → Refuses session_faults e r × (o' ≡ o)
   -- with a key and room enough, it accepts exactly what some message seals to
-  pub accepts : length key ≡ 16 → length C ≤ length o → IsOk r ↔ ((M : List ℕ) × Seals (under key) H M C T)
+  pub accepts : length key ≡ 16 → length C ≤ length o
+      → IsOk r ↔ ((M : List ℕ) × Seals (under key) H M C T)
   -- then that message stands in the first bytes of o', and it is the only one
   pub message : IfOk r (λ n. (n ≡ length C) × Seals (under key) H (take n o') C T)
   pub only : IfOk r (λ n. (M : List ℕ) → Seals (under key) H M C T → M ≡ take n o')
   -- where no check fails it refuses a forgery, and leaves as many zeros as C has bytes
-  pub forgery : open_checks key H C T o ≡ None → IfErr r (λ e. IsRefusal session_faults (forged (length C)) e × (o' ≡ replicate (length C) 0 ++ drop (length C) o))
+  pub forgery : open_checks key H C T o ≡ None
+      → IfErr r (λ e. IsRefusal session_faults (forged (length C)) e
+      × (o' ≡ replicate (length C) 0 ++ drop (length C) o))
   pub rest : drop (length C) o' ≡ drop (length C) o
+  pub room : IfOk r (λ n. n ≤ length o)

@@ -21,7 +21,8 @@ impl<S: Suite, W: Way> Session<S, W> {
     ) -> Result<(usize, usize), Placed<SessionFault>>
         ensures room { IfOk result (λ n. n.0 ≤ length out.old) }
         ensures refused { (R : Run) → SessionAt R self.old
-            → RefusedBy session_faults (body_check (length R.body) (held R) (length input.now) (length out.old)) result }
+            → RefusedBy session_faults
+            (body_check (length R.body) (held R) (length input.now) (length out.old)) result }
         ensures unaltered { OnErr result ((self.new ≡ self.old) × (out.new ≡ out.old)) }
         ensures answer { (R : Run) → SessionAt R self.old
             → IfOk result (λ n. n ≡ given_of (held R + length input.now)) }
@@ -30,9 +31,11 @@ impl<S: Suite, W: Way> Session<S, W> {
         ensures taken { (R : Run) → SessionAt R self.old
             → IfOk result (λ n. SessionAt (bodied R input.now (take n.0 out.new)) self.new) }
         ensures blocks { (R : Run) → SessionAt R self.old
-            → IfOk result (λ n. Blocks W.Way.way (S.Suite.under R.key) (bodied R input.now (take n.0 out.new))) }
+            → IfOk result (λ n. Blocks W.Way.way (S.Suite.under R.key)
+            (bodied R input.now (take n.0 out.new))) }
         ensures two_runs { (R : Run) → SessionAt R self.old
-            → IfOk result (λ n. AgreesWith W.Way.way (S.Suite.under R.key) (bodied R input.now (take n.0 out.new))) }
+            → IfOk result (λ n. AgreesWith W.Way.way (S.Suite.under R.key)
+            (bodied R input.now (take n.0 out.new))) }
     {
         if input.len() > BODY_MOST - self.total {
             return Err(Placed {

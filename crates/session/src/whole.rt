@@ -21,14 +21,16 @@ pub fn seal<S: Suite>(
     out: &mut [u8],
     tag: &mut [u8; 16],
 ) -> Result<usize, Placed<SessionFault>>
-    ensures refused { RefusedBy session_faults (seal_checks key.now header.now message.now out.old) result }
+    ensures refused { RefusedBy session_faults
+        (seal_checks key.now header.now message.now out.old) result }
     ensures unaltered { OnErr result ((out.new ≡ out.old) × (tag.new ≡ tag.old)) }
-    ensures seals { IfOk result (λ n.
-        (n ≡ length message.now)
+    ensures accepts { length key.now ≡ 16 → length message.now ≤ length out.old
+        → IsOk result ↔ ((C : List ℕ) × (T : List ℕ)
+        × Seals (S.Suite.under key.now) header.now message.now C T) }
+    ensures seals { IfOk result (λ n. (n ≡ length message.now)
         × Seals (S.Suite.under key.now) header.now message.now (take n out.new) tag.new) }
     ensures rest { drop (length message.now) out.new ≡ drop (length message.now) out.old }
-    ensures accepts { length key.now ≡ 16 → length message.now ≤ length out.old
-        → IsOk result ↔ ((C : List ℕ) × (T : List ℕ) × Seals (S.Suite.under key.now) header.now message.now C T) }
+    ensures room { IfOk result (λ n. n ≤ length out.old) }
 {
     let mut place = KeyPlace::new();
     place.fill(key)?;
@@ -45,20 +47,23 @@ pub fn open<S: Suite>(
     tag: &[u8],
     out: &mut [u8],
 ) -> Result<usize, Placed<SessionFault>>
-    ensures refused { (e : Refusal SessionFault) → open_checks key.now header.now ciphertext.now tag.now out.old ≡ Some e
+    ensures refused { (e : Refusal SessionFault)
+        → open_checks key.now header.now ciphertext.now tag.now out.old ≡ Some e
         → Refuses session_faults e result × (out.new ≡ out.old) }
     ensures accepts { length key.now ≡ 16 → length ciphertext.now ≤ length out.old
-        → IsOk result ↔ ((M : List ℕ) × Seals (S.Suite.under key.now) header.now M ciphertext.now tag.now) }
-    ensures message { IfOk result (λ n.
-        (n ≡ length ciphertext.now)
+        → IsOk result ↔ ((M : List ℕ)
+        × Seals (S.Suite.under key.now) header.now M ciphertext.now tag.now) }
+    ensures message { IfOk result (λ n. (n ≡ length ciphertext.now)
         × Seals (S.Suite.under key.now) header.now (take n out.new) ciphertext.now tag.now) }
-    ensures only { IfOk result (λ n.
-        (M : List ℕ) → Seals (S.Suite.under key.now) header.now M ciphertext.now tag.now → M ≡ take n out.new) }
+    ensures only { IfOk result (λ n. (M : List ℕ)
+        → Seals (S.Suite.under key.now) header.now M ciphertext.now tag.now
+        → M ≡ take n out.new) }
     ensures forgery { open_checks key.now header.now ciphertext.now tag.now out.old ≡ None
-        → IfErr result (λ e.
-        IsRefusal session_faults (forged (length ciphertext.now)) e
-        × (out.new ≡ replicate (length ciphertext.now) 0 ++ drop (length ciphertext.now) out.old)) }
+        → IfErr result (λ e. IsRefusal session_faults (forged (length ciphertext.now)) e
+        × (out.new ≡ replicate (length ciphertext.now) 0
+        ++ drop (length ciphertext.now) out.old)) }
     ensures rest { drop (length ciphertext.now) out.new ≡ drop (length ciphertext.now) out.old }
+    ensures room { IfOk result (λ n. n ≤ length out.old) }
 {
     let mut place = KeyPlace::new();
     place.fill(key)?;
