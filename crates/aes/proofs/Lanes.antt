@@ -1,14 +1,16 @@
--- Vectors of sixteen bytes, lane by lane.
+-- Vectors of sixteen bytes as lists: that places computed from bytes are places in a table, what a permute by them gives, and that lanes fit.
 use Rattle.std.proofs.Common.{◌≡◌, ℕ, zero, suc, ◌+◌, ◌-◌, ◌*◌, ◌/◌, ◌<◌, Bool, true, false, cond, ◌&&◌, ◌||◌, T, ltb, leb, List, [], ◌∷◌, map, length, get_or, refl, sym, ap, ◌∙◌, subst, inl, inr, arith, w8, Fits, eq-zero-or-pos}
 use Rattle.std.proofs.lemmas.List.{get_or-map, length-map, ext_get_or}
 use Rattle.std.proofs.lemmas.Simd.{swz_l, SwzOk, SwzOk-from_Each1, length-swz_l, get_or-swz_l}
 use lib.Ieee.Fits.{and_l, and_r}
 use lib.Lanes.{Each1}
-use Rattle.aes.specs.Nibbles.{is_index, Indexes, look}
+use Rattle.aes.specs.Tower.{is_index, Indexes, look_up}
 
+-- what the check knows of a u8x16
 abbrev pub IsBlock : List ℕ → Type 0
 IsBlock v = (length v ≡ 16) × Each1 (Fits w8) v
 
+-- a test of every number below n, which antt computes
 abbrev pub all_below : (ℕ → Bool) → ℕ → Bool
 all_below p zero = true
 all_below p (suc n) = p n && all_below p n
@@ -42,14 +44,14 @@ each_ok (j ∷ js) h = (index_ok j h.0, each_ok js h.1)
 pub swizzle_ok : (js : List ℕ) → length js ≡ 16 → Indexes js → SwzOk w8 16 16 0 js
 swizzle_ok js long h = SwzOk-from_Each1 w8 16 1 16 0 js refl (omega (arith, long)) (each_ok js h)
 
-pub looked : (t js : List ℕ) → length js ≡ 16 → swz_l w8 16 t 0 js ≡ map (look t) js
-looked t js long =
-    ext_get_or 0 _ _ (length-swz_l w8 16 t 0 js ∙ sym (length-map js (look t))) (λ i h.
+pub looked_up : (t js : List ℕ) → length js ≡ 16 → swz_l w8 16 t 0 js ≡ map (look_up t) js
+looked_up t js long =
+    ext_get_or 0 _ _ (length-swz_l w8 16 t 0 js ∙ sym (length-map js (look_up t))) (λ i h.
     let lt : i < length js = omega (arith, length-swz_l w8 16 t 0 js) in
     let block : 16 * ((0 + i) / 16) + get_or js i 0 ≡ get_or js i 0 = omega (arith, long) in
     get_or-swz_l w8 16 t 0 js i lt
     ∙ ap (λ k. cond (leb 128 (get_or js i 0)) 0 (get_or t k 0)) block
-    ∙ sym (get_or-map (look t) js i 0 0 lt))
+    ∙ sym (get_or-map (look_up t) js i 0 0 lt))
 
 pub lane_fits : (v : List ℕ) (i : ℕ) → Each1 (Fits w8) v → get_or v i 0 < 256
 lane_fits [] i h = omega arith

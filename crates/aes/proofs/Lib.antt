@@ -6,6 +6,6 @@ pub mod Words
 pub mod Schedules
 mod Lanes
 mod Inversion
-mod Tower
-mod Mixing
-mod Backing
+mod EachByte
+mod EachState
+mod Undoing

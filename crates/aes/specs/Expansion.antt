@@ -1,4 +1,5 @@
--- KeyExpansion of FIPS 197 for a key of sixteen bytes: the loop that makes the words w[0] to w[43], and AES-128 under a key.
+-- KeyExpansion of FIPS 197 for a key of sixteen bytes: the loop that makes the words w[0] to w[43],
+-- and AES-128 under a key.
 use Rattle.std.specs.Prelude.{ℕ, zero, suc, ◌+◌, ◌-◌, ◌*◌, ◌/◌, ◌%◌, cond, List, [], ◌∷◌, ◌++◌, ◌==◌, bit_xor, slice_index, slice_index_or}
 use Rattle.field.specs.Field.{xtime}
 use Rattle.field.specs.Substitution.{sub}
@@ -41,12 +42,15 @@ turn i w = xor_word (word_at w (i - 4)) (temp i (word_at w (i - 1)))
 
 -- the words after n turns: the four of the key, and n more
 unfoldable pub expanded : List ℕ → ℕ → List (List ℕ)
-expanded key zero = word (λ r. byte_at key r 0) ∷ word (λ r. byte_at key r 1) ∷ word (λ r. byte_at key r 2) ∷ word (λ r. byte_at key r 3) ∷ []
+expanded key zero =
+    word (λ r. byte_at key r 0) ∷ word (λ r. byte_at key r 1) ∷
+    word (λ r. byte_at key r 2) ∷ word (λ r. byte_at key r 3) ∷ []
 expanded key (suc n) = expanded key n ++ (turn (n + 4) (expanded key n) ∷ [])
 
 -- round key j: the words w[4j] to w[4j+3]
 abbrev pub round_key : List (List ℕ) → ℕ → List ℕ
-round_key w j = word_at w (4 * j) ++ word_at w (4 * j + 1) ++ word_at w (4 * j + 2) ++ word_at w (4 * j + 3)
+round_key w j =
+    word_at w (4 * j) ++ word_at w (4 * j + 1) ++ word_at w (4 * j + 2) ++ word_at w (4 * j + 3)
 
 -- the n lists f 0, f 1, ..
 abbrev pub listed : ℕ → (ℕ → List ℕ) → List (List ℕ)

@@ -1,5 +1,5 @@
--- The same in the groups by which the code goes. Proofs tie them to InvCipher and to KeyExpansion, and no contract of a public function
--- cites them.
+-- The same in the groups by which the code goes. Proofs tie them to InvCipher and to KeyExpansion,
+-- and no contract of a public function cites them.
 use Rattle.std.specs.Prelude.{ℕ, zero, suc, ◌+◌, ◌%◌, List, bit_xor}
 use Rattle.field.specs.Substitution.{sub}
 use Rattle.aes.specs.State.{byte_at, state, add_round_key, inv_sub_bytes, inv_shift_rows, inv_mix_columns}

@@ -3,5 +3,5 @@ pub mod Cipher
 pub mod Expansion
 pub mod Grouping
 pub mod Laws
-pub mod Nibbles
+pub mod Tower
 pub mod Between

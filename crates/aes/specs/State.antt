@@ -1,4 +1,5 @@
--- The state of FIPS 197, four columns of four bytes one after another, and the steps on it with their inverses.
+-- The state of FIPS 197, four columns of four bytes one after another, and the steps on it with
+-- their inverses.
 use Rattle.std.specs.Prelude.{ℕ, ◌+◌, ◌-◌, ◌*◌, ◌%◌, List, [], ◌∷◌, bit_xor, slice_index}
 use Rattle.field.specs.Substitution.{sub, unsub}
 use Rattle.field.specs.Columns.{mixed, unmixed}
@@ -23,7 +24,8 @@ unfoldable pub shift_rows : List ℕ → List ℕ
 shift_rows s = state (λ r c. byte_at s r ((c + r) % 4))
 
 unfoldable pub mix_columns : List ℕ → List ℕ
-mix_columns s = state (λ r c. mixed r (byte_at s 0 c) (byte_at s 1 c) (byte_at s 2 c) (byte_at s 3 c))
+mix_columns s =
+    state (λ r c. mixed r (byte_at s 0 c) (byte_at s 1 c) (byte_at s 2 c) (byte_at s 3 c))
 
 -- the round key k, laid out as the state is
 unfoldable pub add_round_key : List ℕ → List ℕ → List ℕ
@@ -36,4 +38,5 @@ unfoldable pub inv_shift_rows : List ℕ → List ℕ
 inv_shift_rows s = state (λ r c. byte_at s r ((c + 4 - r) % 4))
 
 unfoldable pub inv_mix_columns : List ℕ → List ℕ
-inv_mix_columns s = state (λ r c. unmixed r (byte_at s 0 c) (byte_at s 1 c) (byte_at s 2 c) (byte_at s 3 c))
+inv_mix_columns s =
+    state (λ r c. unmixed r (byte_at s 0 c) (byte_at s 1 c) (byte_at s 2 c) (byte_at s 3 c))

@@ -2,7 +2,7 @@
 ghost use Rattle.aes.specs.Grouping.{next_key};
 ghost use Rattle.std.specs.Prelude.{◌≡◌};
 
-use crate::vectors::sub_bytes;
+use crate::tower::sub_bytes;
 
 // The round key after k, with the round constant rc.
 pub(crate) fn next_key(k: [u8; 16], rc: u8) -> [u8; 16]

@@ -1,13 +1,13 @@
 // AES-128 of FIPS 197 with ten rounds, and the same with four whole rounds, both ways.
 //
-// A function whose name ends in `_stands` does nothing: its contract is a theorem, and the crate is refused without the proof.
+// A function whose name ends in `_stands` does nothing: its contract is a theorem, and the crate is
+// refused without the proof.
 #![tactic(auto)]
 
 ghost use Rattle.std.specs.Prelude.{◌≡◌, ℕ, ◌+◌, ◌-◌, ◌<◌, List, map, length, slice_index};
 ghost use Rattle.poet.specs.Bytes.{Block};
-ghost use Rattle.aes.specs.Nibbles.{key_in_tower, unaffine_in_tower};
-ghost use Rattle.aes.specs.Between.{Inside, InsideBack};
-ghost use Rattle.aes.specs.State.{inv_mix_columns, inv_shift_rows, inv_sub_bytes};
+ghost use Rattle.aes.specs.Tower.{key_in_tower, unmixed_in_tower};
+ghost use Rattle.aes.specs.Between.{AfterRounds, BeforeRounds};
 ghost use Rattle.aes.specs.Cipher.{IsSchedule, cipher, cipher4, inv_cipher, inv_cipher4, key_at, rounds};
 ghost use Rattle.aes.specs.Expansion.{schedule};
 ghost use Rattle.aes.specs.Grouping.{unrounds};
@@ -15,164 +15,175 @@ ghost use Rattle.aes.specs.Laws.{AesLaw, Aes4Law, CipherLaw, Cipher4Law, Expansi
 
 mod keys;
 mod steps;
-mod vectors;
+mod tables;
+mod tower;
 
 use keys::next_key;
 use steps::{add_round_key, shift_rows, unshift_rows};
-pub use vectors::{sub_bytes, unsub_bytes};
-use vectors::{
-    enter, enter_back, enter_key, inside_round, inside_sub, inside_unround, leave, leave_back,
-    unmixed_key, unround,
+use tower::{
+    begin_unsub_bytes, end_unsub_bytes, enter_round_key, enter_tower, leave_tower, round_in_tower,
+    sub_bytes_leaving, undo_round, undo_round_in_tower, unmix_round_key,
 };
+pub use tower::{sub_bytes, unsub_bytes};
 
-// The eleven round keys of a key, as they are; in the tower, as a round takes them; and as a round undone in the tower takes them.
+/// The eleven round keys of an AES-128 key, FIPS 197, ready for both ways through the rounds.
+///
+/// It is `Copy`, so its round keys cannot be wiped when it is dropped.
 #[derive(Clone, Copy)]
 pub struct Schedule {
+    // as KeyExpansion gives them
     keys: [[u8; 16]; 11],
-    tower: [[u8; 16]; 11],
+    // as a round in the tower takes them
+    forth: [[u8; 16]; 11],
+    // as a round undone in the tower takes them
     back: [[u8; 16]; 11],
     ghost count: { length keys ≡ 11 },
     ghost sizes: { (i : ℕ) → i < 11 → length (key_at keys i) ≡ 16 },
     ghost bytes: { (i : ℕ) → i < 11 → (j : ℕ) → j < 16 → slice_index (key_at keys i) j < 256 },
-    ghost towers: { length tower ≡ 11 },
-    ghost entered: { (i : ℕ) → i < 11 → key_at tower i ≡ map key_in_tower (key_at keys i) },
-    ghost backs: { length back ≡ 11 },
-    ghost unmixed: { (i : ℕ) → i < 11 → key_at back i ≡ map unaffine_in_tower (inv_shift_rows (inv_mix_columns (key_at keys i))) },
+    ghost forth_count: { length forth ≡ 11 },
+    ghost entered: { (i : ℕ) → i < 11 → key_at forth i ≡ map key_in_tower (key_at keys i) },
+    ghost back_count: { length back ≡ 11 },
+    ghost unmixed: { (i : ℕ) → i < 11 → key_at back i ≡ unmixed_in_tower (key_at keys i) },
 }
 
 impl Schedule {
-    // The round keys of a key, by KeyExpansion.
+    /// The round keys of a key, by KeyExpansion of FIPS 197.
     pub fn new(key: [u8; 16]) -> Schedule
         ensures { result.keys ≡ schedule key }
     {
         let mut keys = [key; 11];
         let mut k = key;
         let mut rc = 1;
-        // Kept with an index: the borrow checker does not cover writing arrays through `&mut keys[1..]`.
+        // By index: the borrow checker does not cover writing arrays through `&mut keys[1..]`.
         for i in 0..10 {
             let next = next_key(k, rc);
             rc = field::double(rc);
             keys[i + 1] = next;
             k = next;
         }
-        let tower = keys.map(enter_key);
-        let back = keys.map(unmixed_key);
-        Schedule { keys, tower, back }
+        let forth = keys.map(enter_round_key);
+        let back = keys.map(unmix_round_key);
+        Schedule { keys, forth, back }
     }
 
-    // The rounds n to 1 undone.
-    fn backward(&self, n: usize, start: [u8; 16]) -> [u8; 16]
+    // The rounds n to 1 undone, outside the tower.
+    fn undo_rounds(&self, n: usize, start: [u8; 16]) -> [u8; 16]
         requires { n < 11 }
         ensures { result ≡ unrounds self.now.keys n start }
     {
         let mut s = start;
         for key in self.keys[1..n + 1].iter().rev() {
-            s = unround(add_round_key(*key, s));
+            s = undo_round(add_round_key(*key, s));
         }
         s
     }
 
-    // Enciphers a block in ten rounds.
+    /// Enciphers a block in ten rounds: Cipher of FIPS 197.
     pub fn encipher(&self, x: [u8; 16]) -> [u8; 16]
         ensures { result ≡ cipher self.now.keys x }
     {
-        self.ended(self.forward(9, x))
+        self.last_round(self.whole_rounds(9, x))
     }
 
-    // Deciphers a block: undoes `encipher`.
+    /// Deciphers a block: InvCipher of FIPS 197, which undoes `encipher`.
     pub fn decipher(&self, y: [u8; 16]) -> [u8; 16]
         ensures { result ≡ inv_cipher self.now.keys y }
     {
-        let mut w = self.begun_back(y);
+        let mut w = self.undo_last_round(y);
         for i in 0..9 {
-            let next = self.stepped_back(i, w);
+            let next = self.undo_whole_round(i, w);
             w = next;
         }
-        self.ended_back(w)
+        self.leave_undone(w)
     }
 
-    // Enciphers a block in four whole rounds, under the round keys 0 to 4.
+    /// Enciphers a block in the first four rounds of FIPS 197, each of which mixes columns.
     pub fn encipher4(&self, x: [u8; 16]) -> [u8; 16]
         ensures { result ≡ cipher4 self.now.keys x }
     {
-        leave(self.forward(4, x))
+        leave_tower(self.whole_rounds(4, x))
     }
 
-    // Undoes `encipher4`.
+    /// Undoes `encipher4`.
     pub fn decipher4(&self, y: [u8; 16]) -> [u8; 16]
         ensures { result ≡ inv_cipher4 self.now.keys y }
     {
-        add_round_key(self.keys[0], self.backward(4, y))
+        add_round_key(self.keys[0], self.undo_rounds(4, y))
     }
 }
 
 // A block on its way through the tower.
 impl Schedule {
-    // It enters under round key 0,
+    // It enters the tower under round key 0,
     #[inline(always)]
-    fn begun(&self, x: [u8; 16]) -> [u8; 16]
-        ensures { Inside self.now.keys 0 x result }
+    fn enter(&self, x: [u8; 16]) -> [u8; 16]
+        ensures { AfterRounds self.now.keys 0 x result }
     {
-        enter(add_round_key(self.keys[0], x))
+        enter_tower(add_round_key(self.keys[0], x))
     }
 
-    // goes through a whole round,
+    // goes through the whole round i + 1,
     #[inline(always)]
-    fn stepped(&self, i: usize, s: [u8; 16]) -> [u8; 16]
+    fn whole_round(&self, i: usize, s: [u8; 16]) -> [u8; 16]
         requires { i < 10 }
-        ensures { (x : List ℕ) → Block x → Inside self.now.keys i x s → Inside self.now.keys (i + 1) x result }
+        ensures { (x : List ℕ) → Block x → AfterRounds self.now.keys i x s
+            → AfterRounds self.now.keys (i + 1) x result }
     {
-        inside_round(s, self.tower[i + 1])
+        round_in_tower(s, self.forth[i + 1])
     }
 
-    // or through n of them,
-    fn forward(&self, n: usize, x: [u8; 16]) -> [u8; 16]
+    // or through the first n of them,
+    fn whole_rounds(&self, n: usize, x: [u8; 16]) -> [u8; 16]
         requires { n < 11 }
-        ensures { Inside self.now.keys n x result }
+        ensures { AfterRounds self.now.keys n x result }
     {
-        let mut s = self.begun(x);
+        let mut s = self.enter(x);
         for i in 0..n {
-            let next = self.stepped(i, s);
+            let next = self.whole_round(i, s);
             s = next;
         }
         s
     }
 
-    // and leaves by the last round.
+    // and leaves the tower by the last round.
     #[inline(always)]
-    fn ended(&self, s: [u8; 16]) -> [u8; 16]
-        ensures { (x : List ℕ) → Block x → Inside self.now.keys 9 x s → result ≡ cipher self.now.keys x }
+    fn last_round(&self, s: [u8; 16]) -> [u8; 16]
+        ensures { (x : List ℕ) → Block x → AfterRounds self.now.keys 9 x s
+            → result ≡ cipher self.now.keys x }
     {
-        add_round_key(self.keys[10], shift_rows(inside_sub(s)))
+        add_round_key(self.keys[10], shift_rows(sub_bytes_leaving(s)))
     }
 
-    // The way back: in by the last round undone,
+    // On the way back it enters by the last round undone,
     #[inline(always)]
-    fn begun_back(&self, y: [u8; 16]) -> [u8; 16]
-        ensures { InsideBack self.now.keys 9 y result }
+    fn undo_last_round(&self, y: [u8; 16]) -> [u8; 16]
+        ensures { BeforeRounds self.now.keys 9 y result }
     {
-        enter_back(unshift_rows(add_round_key(self.keys[10], y)))
+        begin_unsub_bytes(unshift_rows(add_round_key(self.keys[10], y)))
     }
 
-    // one whole round more undone,
+    // has the whole round 9 - i undone,
     #[inline(always)]
-    fn stepped_back(&self, i: usize, w: [u8; 16]) -> [u8; 16]
+    fn undo_whole_round(&self, i: usize, s: [u8; 16]) -> [u8; 16]
         requires { i < 9 }
-        ensures { (y : List ℕ) → InsideBack self.now.keys (9 - i) y w → InsideBack self.now.keys (9 - (i + 1)) y result }
+        ensures { (y : List ℕ) → BeforeRounds self.now.keys (9 - i) y s
+            → BeforeRounds self.now.keys (9 - (i + 1)) y result }
     {
-        inside_unround(w, self.back[9 - i])
+        undo_round_in_tower(s, self.back[9 - i])
     }
 
-    // and out under round key 0.
+    // and leaves under round key 0.
     #[inline(always)]
-    fn ended_back(&self, w: [u8; 16]) -> [u8; 16]
-        ensures { (y : List ℕ) → InsideBack self.now.keys 0 y w → result ≡ inv_cipher self.now.keys y }
+    fn leave_undone(&self, s: [u8; 16]) -> [u8; 16]
+        ensures { (y : List ℕ) → BeforeRounds self.now.keys 0 y s
+            → result ≡ inv_cipher self.now.keys y }
     {
-        add_round_key(self.keys[0], leave_back(w))
+        add_round_key(self.keys[0], end_unsub_bytes(s))
     }
 }
 
-// x enciphered under a and under b, and y under b, side by side.
+/// x enciphered under a and under b, and y under b, side by side, so that the processor overlaps
+/// them.
 pub fn encipher_three(
     a: &Schedule,
     b: &Schedule,
@@ -183,16 +194,20 @@ pub fn encipher_three(
     ensures second { result.1 ≡ cipher b.now.keys x }
     ensures third { result.2 ≡ cipher b.now.keys y }
 {
-    let mut p = a.begun(x);
-    let mut q = b.begun(x);
-    let mut r = b.begun(y);
+    let mut p = a.enter(x);
+    let mut q = b.enter(x);
+    let mut r = b.enter(y);
     for i in 0..9 {
-        (p, q, r) = (a.stepped(i, p), b.stepped(i, q), b.stepped(i, r));
+        (p, q, r) = (
+            a.whole_round(i, p),
+            b.whole_round(i, q),
+            b.whole_round(i, r),
+        );
     }
-    (a.ended(p), b.ended(q), b.ended(r))
+    (a.last_round(p), b.last_round(q), b.last_round(r))
 }
 
-// x deciphered under a, and x and y enciphered under b, side by side.
+/// x deciphered under a, and x and y enciphered under b, side by side.
 pub fn decipher_three(
     a: &Schedule,
     b: &Schedule,
@@ -203,16 +218,20 @@ pub fn decipher_three(
     ensures second { result.1 ≡ cipher b.now.keys x }
     ensures third { result.2 ≡ cipher b.now.keys y }
 {
-    let mut p = a.begun_back(x);
-    let mut q = b.begun(x);
-    let mut r = b.begun(y);
+    let mut p = a.undo_last_round(x);
+    let mut q = b.enter(x);
+    let mut r = b.enter(y);
     for i in 0..9 {
-        (p, q, r) = (a.stepped_back(i, p), b.stepped(i, q), b.stepped(i, r));
+        (p, q, r) = (
+            a.undo_whole_round(i, p),
+            b.whole_round(i, q),
+            b.whole_round(i, r),
+        );
     }
-    (a.ended_back(p), b.ended(q), b.ended(r))
+    (a.leave_undone(p), b.last_round(q), b.last_round(r))
 }
 
-// Both forms permute the blocks under every schedule, and the deciphering forms undo them.
+/// Both forms permute the blocks under every schedule, and the deciphering forms undo them.
 pub fn ciphers_stands() -> u8
     ensures ten { CipherLaw }
     ensures four { Cipher4Law }
@@ -220,7 +239,8 @@ pub fn ciphers_stands() -> u8
     0
 }
 
-// Every key expands to a schedule, every value of `Schedule` holds one, and so the laws hold under every key.
+/// Every key expands to a schedule, every value of `Schedule` holds one, and so the laws hold under
+/// every key.
 pub fn schedules_stands() -> u8
     ensures expands { ExpansionLaw }
     ensures holds { (s : Schedule) → IsSchedule s.keys }

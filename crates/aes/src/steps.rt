@@ -12,7 +12,7 @@ pub(crate) fn shift_rows(s: [u8; 16]) -> [u8; 16]
     ]
 }
 
-// InvShiftRows. Kept beside ShiftRows: the two name other places, and a table of places would say no more.
+// InvShiftRows: row r moves back by r places.
 pub(crate) fn unshift_rows(s: [u8; 16]) -> [u8; 16]
     ensures { result ≡ inv_shift_rows s }
 {

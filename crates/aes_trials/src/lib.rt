@@ -1,4 +1,6 @@
-// Trials of AES-128: the examples of FIPS 197, and a table of vectors, both ways; and its substitution against the tables of `field`.
+// Trials of AES-128, both ways: the examples of FIPS 197, vectors of other implementations, and the
+// substitution against the tables of `field`. The published vectors of POET-AES10-AES4, in crate
+// `trials`, try four rounds too.
 #![tactic(auto)]
 
 #[cfg(test)]
@@ -29,6 +31,7 @@ mod tests {
         assert_eq!(rt; s.decipher(ciphered), plain);
     }
 
+    // Vectors of other implementations.
     #[test]
     fn table(rt: HostRuntime) {
         for v in &VECTORS {
@@ -40,7 +43,51 @@ mod tests {
         }
     }
 
-    // Every byte, by vectors as by the tables, both ways.
+    fn add(sum: &mut [u8; 16], block: [u8; 16]) {
+        for (s, b) in sum.iter_mut().zip(block) {
+            *s ^= b;
+        }
+    }
+
+    // The blocks whose first bit is 1, whose first two are, and so on to all, under the key of
+    // zeros, and the block of zeros under each as key: the sets VarTxt and VarKey of AESAVS.
+    // The sums at ten rounds are by OpenSSL, those at four by the AES instructions of a processor.
+    #[test]
+    fn growing_ones(rt: HostRuntime) {
+        let zeros = [0; 16];
+        let under_zeros = Schedule::new(zeros);
+        let mut block = zeros;
+        let (mut texts, mut texts_4) = (zeros, zeros);
+        let (mut keys, mut keys_4) = (zeros, zeros);
+        for i in 0..16usize {
+            for bit in 0..8u32 {
+                block[i] |= 128 >> bit;
+                add(&mut texts, under_zeros.encipher(block));
+                add(&mut texts_4, under_zeros.encipher4(block));
+                let under_block = Schedule::new(block);
+                add(&mut keys, under_block.encipher(zeros));
+                add(&mut keys_4, under_block.encipher4(zeros));
+            }
+        }
+        assert_eq!(rt;
+            texts,
+            *b"\x6b\x83\xd2\xbc\x0d\xb8\x29\xe5\x1b\x35\xeb\x28\x44\x0e\xd2\x75"
+        );
+        assert_eq!(rt;
+            texts_4,
+            *b"\xe2\x08\x7a\xc2\x18\x17\x37\x7c\xb7\x98\x51\xd9\x41\x16\x6c\x32"
+        );
+        assert_eq!(rt;
+            keys,
+            *b"\x68\xaf\xdf\x6c\x87\x36\x8c\x08\x74\x4b\xa8\x50\xb5\xba\xef\x4f"
+        );
+        assert_eq!(rt;
+            keys_4,
+            *b"\xf7\xed\xb4\xe1\xae\xe2\xdc\x12\xd7\xf4\x95\x03\x9f\x8c\x34\xdd"
+        );
+    }
+
+    // Every byte, by look-ups in the tower as by the tables of `field`, both ways.
     #[test]
     fn substitution(rt: HostRuntime) {
         for b in 0..=255u8 {

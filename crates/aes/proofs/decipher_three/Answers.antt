@@ -1,10 +1,10 @@
 use Rattle.std.proofs.Common.{◌≡◌, ℕ, ◌-◌, ◌<◌, length, get_or, subst, rules, arith}
-use Rattle.aes.specs.Between.{Inside, InsideBack}
+use Rattle.aes.specs.Between.{AfterRounds, BeforeRounds}
 use Rattle.aes.proofs.Blocks.{block_from}
 use Rattle.aes.proofs.decipher_three.Goals as goal
 
 pub loop-i-init : goal.loop-i-init
-loop-i-init c = record { first = c.begun_back-p.ensures; second = c.begun-q.ensures; third = c.begun-r.ensures }
+loop-i-init c = record { first = c.undo_last_round-p.ensures; second = c.enter-q.ensures; third = c.enter-r.ensures }
 
 pub loop-i-preserved : goal.loop-i-preserved
 loop-i-preserved c =
@@ -14,9 +14,9 @@ loop-i-preserved c =
     let hy : (i : ℕ) → i < 16 → get_or c.args.y i 0 < 256 = search rules in
     let v = c.loop-i.invariant in
     record {
-      first = c.stepped_back.ensures c.args.x v.first;
-      second = c.stepped.ensures c.args.x (block_from c.args.x lx hx) v.second;
-      third = c.stepped-in-loop-i.ensures c.args.y (block_from c.args.y ly hy) v.third;
+      first = c.undo_whole_round.ensures c.args.x v.first;
+      second = c.whole_round.ensures c.args.x (block_from c.args.x lx hx) v.second;
+      third = c.whole_round-in-loop-i.ensures c.args.y (block_from c.args.y ly hy) v.third;
     }
 
 pub returns-clause-first : goal.returns-clause-first
@@ -24,18 +24,18 @@ returns-clause-first c =
     let lx : length c.args.x ≡ 16 = search rules in
     let hx : (i : ℕ) → i < 16 → get_or c.args.x i 0 < 256 = search rules in
     let e : c.loop-i.i ≡ 9 = omega arith in
-    c.ended_back.ensures c.args.x (subst (λ n. InsideBack c.args.a.now.keys (9 - n) c.args.x c.loop-i.p) e c.loop-i.invariant.first)
+    c.leave_undone.ensures c.args.x (subst (λ n. BeforeRounds c.args.a.now.keys (9 - n) c.args.x c.loop-i.p) e c.loop-i.invariant.first)
 
 pub returns-clause-second : goal.returns-clause-second
 returns-clause-second c =
     let lx : length c.args.x ≡ 16 = search rules in
     let hx : (i : ℕ) → i < 16 → get_or c.args.x i 0 < 256 = search rules in
     let e : c.loop-i.i ≡ 9 = omega arith in
-    c.ended.ensures c.args.x (block_from c.args.x lx hx) (subst (λ n. Inside c.args.b.now.keys n c.args.x c.loop-i.q) e c.loop-i.invariant.second)
+    c.last_round.ensures c.args.x (block_from c.args.x lx hx) (subst (λ n. AfterRounds c.args.b.now.keys n c.args.x c.loop-i.q) e c.loop-i.invariant.second)
 
 pub returns-clause-third : goal.returns-clause-third
 returns-clause-third c =
     let ly : length c.args.y ≡ 16 = search rules in
     let hy : (i : ℕ) → i < 16 → get_or c.args.y i 0 < 256 = search rules in
     let e : c.loop-i.i ≡ 9 = omega arith in
-    c.ended-2.ensures c.args.y (block_from c.args.y ly hy) (subst (λ n. Inside c.args.b.now.keys n c.args.y c.loop-i.r) e c.loop-i.invariant.third)
+    c.last_round-2.ensures c.args.y (block_from c.args.y ly hy) (subst (λ n. AfterRounds c.args.b.now.keys n c.args.y c.loop-i.r) e c.loop-i.invariant.third)

@@ -6,4 +6,4 @@ pub returns : goal.returns
 returns c =
     let lx : length c.args.x ≡ 16 = search rules in
     let hx : (i : ℕ) → i < 16 → get_or c.args.x i 0 < 256 = search rules in
-    c.ended.ensures c.args.x (block_from c.args.x lx hx) c.forward.ensures
+    c.last_round.ensures c.args.x (block_from c.args.x lx hx) c.whole_rounds.ensures

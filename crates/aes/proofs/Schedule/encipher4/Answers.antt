@@ -16,4 +16,4 @@ returns c =
     let lx : length c.args.x ≡ 16 = search rules in
     let hx : (i : ℕ) → i < 16 → get_or c.args.x i 0 < 256 = search rules in
     let start = add_round_key (key_at ks 0) x in
-    c.leave.ensures (rounds ks 4 start) (rounds_block ks s 4 (lit< tt) start (add_block (key_at ks 0) x (s.each 0 (lit< tt)) (block_from x lx hx))) c.forward.ensures
+    c.leave_tower.ensures (rounds ks 4 start) (rounds_block ks s 4 (lit< tt) start (add_block (key_at ks 0) x (s.each 0 (lit< tt)) (block_from x lx hx))) c.whole_rounds.ensures

@@ -28,7 +28,7 @@ loop-i-preserved c =
 pub invariant_of-result : goal.invariant_of-result
 invariant_of-result c =
     let s = c.loop-i.invariant.0 in
-    record { count = s.count; sizes = λ i h. (s.each i h).long; bytes = λ i h j l. block_at _ (s.each i h) j; towers = c.map-tower.ensures.items.long; entered = λ i h. let m = (c.map-tower.ensures.items.at i [] [] (omega (arith, s.count))).2 in search rules; backs = c.map-back.ensures.items.long; unmixed = λ i h. let m = (c.map-back.ensures.items.at i [] [] (omega (arith, s.count))).2 in search rules }
+    record { count = s.count; sizes = λ i h. (s.each i h).long; bytes = λ i h j l. block_at _ (s.each i h) j; forth_count = c.map-forth.ensures.items.long; entered = λ i h. let m = (c.map-forth.ensures.items.at i [] [] (omega (arith, s.count))).2 in search rules; back_count = c.map-back.ensures.items.long; unmixed = λ i h. let m = (c.map-back.ensures.items.at i [] [] (omega (arith, s.count))).2 in search rules }
 
 pub returns : goal.returns
 returns c = is_schedule c.args.key c.loop-i.keys c.loop-i.invariant.0.count (λ i h. c.loop-i.invariant.3 i (omega arith))
