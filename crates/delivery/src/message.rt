@@ -7,10 +7,8 @@ ghost use Rattle.delivery.specs.Told.{not_listed, suite_of};
 
 use fault::kinds::{Placed, SessionFault};
 use suite::Suite;
+use suites::at_listed;
 use suites::listed::Listed;
-use suites::mirror::Mirror;
-use suites::shaft::Shaft;
-use suites::submission::{Submission4, Submission10};
 
 // Kept with a parameter for each buffer: every one has a refusal of its own, and a struct of them would be made for the call alone.
 pub fn seal(
@@ -27,12 +25,8 @@ pub fn seal(
     ensures listed { IfSome (suite_of suite) (λ under. SealCall under
         key.now header.now message.now out.old tag.old out.new tag.new result) }
 {
-    match Listed::try_from(suite)? {
-        Listed::Shaft => sealed::<Shaft>(key, header, message, out, tag),
-        Listed::Submission4 => sealed::<Submission4>(key, header, message, out, tag),
-        Listed::Submission10 => sealed::<Submission10>(key, header, message, out, tag),
-        Listed::Mirror => sealed::<Mirror>(key, header, message, out, tag),
-    }
+    let listed = Listed::try_from(suite)?;
+    at_listed!(listed, sealed(key, header, message, out, tag))
 }
 
 pub fn open(
@@ -48,12 +42,8 @@ pub fn open(
     ensures listed { IfSome (suite_of suite) (λ under. OpenCall under
         key.now header.now ciphertext.now tag.now out.old out.new result) }
 {
-    match Listed::try_from(suite)? {
-        Listed::Shaft => opened::<Shaft>(key, header, ciphertext, tag, out),
-        Listed::Submission4 => opened::<Submission4>(key, header, ciphertext, tag, out),
-        Listed::Submission10 => opened::<Submission10>(key, header, ciphertext, tag, out),
-        Listed::Mirror => opened::<Mirror>(key, header, ciphertext, tag, out),
-    }
+    let listed = Listed::try_from(suite)?;
+    at_listed!(listed, opened(key, header, ciphertext, tag, out))
 }
 
 // The same under a suite that is a type, with all that its call says as one fact for the calls above.

@@ -11,10 +11,8 @@ ghost use Rattle.delivery.specs.Sheets.{SheetCall, SheetOpened, SheetRefused, Sh
 use fault::kinds::{Placed, SessionFault, SheetFault};
 use sheet::whole::test;
 use suite::Suite;
+use suites::at_listed;
 use suites::listed::Listed;
-use suites::mirror::Mirror;
-use suites::shaft::Shaft;
-use suites::submission::{Submission4, Submission10};
 use wire::parse::Delivery;
 
 // The suite with a number, or the refusal of a number that is not listed.
@@ -37,14 +35,8 @@ pub fn open_sheet(d: Delivery<'_>, out: &mut [u8]) -> Result<usize, Placed<Sheet
     ensures listed { let p = parts_of d.entry in IfSome (suite_of p.suite) (λ under.
         SheetCall under p.key p.header p.ciphertext p.tag out.old out.new result) }
 {
-    match told(d.suite)? {
-        Listed::Shaft => opened::<Shaft>(d.key, d.header, d.ciphertext, d.tag, out),
-        Listed::Submission4 => { opened::<Submission4>(d.key, d.header, d.ciphertext, d.tag, out) }
-        Listed::Submission10 => {
-            opened::<Submission10>(d.key, d.header, d.ciphertext, d.tag, out)
-        }
-        Listed::Mirror => opened::<Mirror>(d.key, d.header, d.ciphertext, d.tag, out),
-    }
+    let listed = told(d.suite)?;
+    at_listed!(listed, opened(d.key, d.header, d.ciphertext, d.tag, out))
 }
 
 // The same under any suite, from the parts of a delivery.

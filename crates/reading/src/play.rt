@@ -9,10 +9,7 @@ use fault::halt::Halt;
 use fault::kinds::SheetFault;
 use std::alloc::Global;
 use suite::Suite;
-use suites::listed::Listed;
-use suites::mirror::Mirror;
-use suites::shaft::Shaft;
-use suites::submission::{Submission4, Submission10};
+use suites::at_listed;
 use wire::parse::Delivery;
 
 // Opens a sheet into the front of `out`, as `open_sheet` does, and answers what each of the calls answered.
@@ -24,16 +21,8 @@ pub fn play(
 ) -> Result<Vec<Reply>, Halt<SheetFault>>
     ensures { Played (parts_of d.entry) out.old out.new asks.now result }
 {
-    match told(d.suite)? {
-        Listed::Shaft => play_as::<Shaft>(heap, d.key, d.header, d.ciphertext, d.tag, out, asks),
-        Listed::Submission4 => {
-            play_as::<Submission4>(heap, d.key, d.header, d.ciphertext, d.tag, out, asks)
-        }
-        Listed::Submission10 => {
-            play_as::<Submission10>(heap, d.key, d.header, d.ciphertext, d.tag, out, asks)
-        }
-        Listed::Mirror => play_as::<Mirror>(heap, d.key, d.header, d.ciphertext, d.tag, out, asks),
-    }
+    let listed = told(d.suite)?;
+    at_listed!(listed, play_as(heap, d.key, d.header, d.ciphertext, d.tag, out, asks))
 }
 
 // The same under any suite, from the parts of a delivery.

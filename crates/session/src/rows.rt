@@ -53,7 +53,7 @@ impl Way for Seal {
         x: [u8; 16],
         y: [u8; 16],
     ) -> ([u8; 16], [u8; 16], [u8; 16]) {
-        S::forth(p, h, x, y)
+        S::encrypt_and_hash(p, h, x, y)
     }
 
     fn lanes(x: [u8; 16], y: [u8; 16]) -> Lanes {
@@ -77,7 +77,7 @@ impl Way for Open {
         x: [u8; 16],
         y: [u8; 16],
     ) -> ([u8; 16], [u8; 16], [u8; 16]) {
-        S::back(p, h, x, y)
+        S::decrypt_and_hash(p, h, x, y)
     }
 
     fn lanes(x: [u8; 16], y: [u8; 16]) -> Lanes {

@@ -77,8 +77,8 @@ pub trait Suite {
         ensures chain { Self.ChainingHash.ChainingHash.chain result.hash ≡ (under key).chain }
         ensures dig { Self.HeaderDigest.HeaderDigest.rule result.digest ≡ (under key).dig };
 
-    // What a row of sealing wants of x and y, side by side where a suite can: x permuted and hashed, and y hashed.
-    fn forth(
+    /// What a row of sealing wants of x and y, side by side where a suite can: x encrypted and hashed, and y hashed.
+    fn encrypt_and_hash(
         permutation: &Self::Permutation,
         hash: &Self::ChainingHash,
         x: [u8; 16],
@@ -91,8 +91,8 @@ pub trait Suite {
         (permutation.encrypt(x), hash.hash(x), hash.hash(y))
     }
 
-    // The same of a row of opening: x unpermuted and hashed, and y hashed.
-    fn back(
+    /// The same of a row of opening: x decrypted and hashed, and y hashed.
+    fn decrypt_and_hash(
         permutation: &Self::Permutation,
         hash: &Self::ChainingHash,
         x: [u8; 16],

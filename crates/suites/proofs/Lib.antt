@@ -1,4 +1,2 @@
-pub mod Pushes
 pub mod Lawful
-pub mod Settling
-mod ByX
+mod Setting

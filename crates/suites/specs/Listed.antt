@@ -1,31 +1,43 @@
--- The list of suites: which is listed under which number, and the functions of each. A number that is not listed is its own place.
-use Rattle.std.specs.Prelude.{ℕ, cond, List, Ok, Err, Result, ◌==◌}
+-- The list of suites: the number of each, which is listed under a number, and the functions of each.
+use Rattle.std.specs.Prelude.{◌≡◌, ℕ, List, Ok, Err, Result, ◌↔◌, ◌==◌, if◌then◌else◌}
 use Rattle.fault.specs.declared.kinds.KeyFault.{KeyFault}
 use Rattle.fault.specs.declared.kinds.KeyFault.TheVariants.{Suite}
 use Rattle.fault.specs.declared.kinds.Placed.{Placed}
 use Rattle.poet.specs.Bytes.{Block}
 use Rattle.poet.specs.Functions.{Functions, Lawful}
+use Rattle.suites.specs.declared.listed.TheConstants.{SHAFT, POET_AES_FOUR, POET_AES_TEN, MIRROR}
 use Rattle.suites.specs.declared.listed.Listed.{Listed}
-use Rattle.suites.specs.declared.listed.Listed.TheVariants.{Shaft, Submission4, Submission10, Mirror}
+use Rattle.suites.specs.declared.listed.Listed.TheVariants.{Shaft, PoetAesFour, PoetAesTen, Mirror}
 use Rattle.suites.specs.Mirror.{mirror}
+use Rattle.suites.specs.PoetAes.{poet_aes_four, poet_aes_ten}
 use Rattle.suites.specs.Shaft.{shaft}
-use Rattle.suites.specs.Submission.{four_rounds, ten_rounds}
 
-abbrev pub listed : ℕ → Result Listed (Placed KeyFault)
-listed n =
-    cond (n == 1) (Ok Shaft) (
-    cond (n == 2) (Ok Submission4) (
-    cond (n == 3) (Ok Submission10) (
-    cond (n == 4) (Ok Mirror)
-    (Err (record { fault = Suite; place = n })))))
+abbrev pub number_of : Listed → ℕ
+number_of Shaft = SHAFT
+number_of PoetAesFour = POET_AES_FOUR
+number_of PoetAesTen = POET_AES_TEN
+number_of Mirror = MIRROR
 
--- the functions of a listed suite, under each key
+-- its functions, under each key
 abbrev pub functions_of : Listed → List ℕ → Functions
 functions_of Shaft = shaft
-functions_of Submission4 = four_rounds
-functions_of Submission10 = ten_rounds
+functions_of PoetAesFour = poet_aes_four
+functions_of PoetAesTen = poet_aes_ten
 functions_of Mirror = mirror
 
--- every listed suite is lawful
-abbrev pub ListedLaw : Type 0
-ListedLaw = (s : Listed) (key : List ℕ) → Block key → Lawful (functions_of s key)
+-- The suite with a number. One that is not listed is its own place.
+abbrev pub listed : ℕ → Result Listed (Placed KeyFault)
+listed n =
+    if n == SHAFT then Ok Shaft
+    else if n == POET_AES_FOUR then Ok PoetAesFour
+    else if n == POET_AES_TEN then Ok PoetAesTen
+    else if n == MIRROR then Ok Mirror
+    else Err (record { fault = Suite; place = n })
+
+-- Each suite is listed under its own number and no other: so no two have one number.
+abbrev pub NumberLaw : Type 0
+NumberLaw = (s : Listed) (n : ℕ) → (listed n ≡ Ok s) ↔ (n ≡ number_of s)
+
+-- every listed suite is lawful under every key
+abbrev pub LawfulLaw : Type 0
+LawfulLaw = (s : Listed) (key : List ℕ) → Block key → Lawful (functions_of s key)

@@ -1,18 +1,28 @@
 // The listed suites, told by their numbers.
 ghost use Rattle.std.specs.Prelude.{◌≡◌};
-ghost use Rattle.suites.specs.Listed.{ListedLaw, listed};
+ghost use Rattle.suites.specs.Listed.{LawfulLaw, NumberLaw, functions_of, listed, number_of};
 
 use crate::mirror::Mirror;
 use crate::shaft::Shaft;
-use crate::submission::{Submission4, Submission10};
+use crate::submission::{PoetAesFour, PoetAesTen};
 use fault::kinds::{KeyFault, Placed};
 use suite::Suite;
 
+// The number of each.
+pub const SHAFT: u8 = 1;
+
+pub const POET_AES_FOUR: u8 = 2;
+
+pub const POET_AES_TEN: u8 = 3;
+
+pub const MIRROR: u8 = 4;
+
+/// A listed suite.
 #[derive(Debug, PartialEq, Eq, Clone, Copy)]
 pub enum Listed {
     Shaft,
-    Submission4,
-    Submission10,
+    PoetAesFour,
+    PoetAesTen,
     Mirror,
 }
 
@@ -23,10 +33,10 @@ impl TryFrom<u8> for Listed {
 
     fn try_from(number: u8) -> Result<Listed, Placed<KeyFault>> {
         match number {
-            Shaft::NUMBER => Ok(Listed::Shaft),
-            Submission4::NUMBER => Ok(Listed::Submission4),
-            Submission10::NUMBER => Ok(Listed::Submission10),
-            Mirror::NUMBER => Ok(Listed::Mirror),
+            SHAFT => Ok(Listed::Shaft),
+            POET_AES_FOUR => Ok(Listed::PoetAesFour),
+            POET_AES_TEN => Ok(Listed::PoetAesTen),
+            MIRROR => Ok(Listed::Mirror),
             _ => Err(Placed {
                 fault: KeyFault::Suite,
                 place: usize::from(number),
@@ -35,9 +45,35 @@ impl TryFrom<u8> for Listed {
     }
 }
 
-// Every listed suite is lawful.
+/// Calls a function that is generic over the suite, at the type of a listed suite: `at_listed!(suite, seal(key, message))`.
+#[macro_export]
+macro_rules! at_listed {
+    ($listed:expr, $($function:ident)::+ ($($argument:expr),* $(,)?)) => {
+        match $listed {
+            $crate::listed::Listed::Shaft => {
+                $($function)::+::<$crate::shaft::Shaft>($($argument),*)
+            }
+            $crate::listed::Listed::PoetAesFour => {
+                $($function)::+::<$crate::submission::PoetAesFour>($($argument),*)
+            }
+            $crate::listed::Listed::PoetAesTen => {
+                $($function)::+::<$crate::submission::PoetAesTen>($($argument),*)
+            }
+            $crate::listed::Listed::Mirror => {
+                $($function)::+::<$crate::mirror::Mirror>($($argument),*)
+            }
+        }
+    };
+}
+
+/// Each listed suite is listed under its own number and no other, its functions are those of its `Suite`, and they are lawful under every key.
 pub fn listed_stands() -> u8
-    ensures { ListedLaw }
+    ensures number { NumberLaw }
+    ensures lawful { LawfulLaw }
+    ensures shaft { (number_of Listed.Shaft ≡ ⟦<Shaft as Suite>⟧.NUMBER) × (functions_of Listed.Shaft ≡ ⟦<Shaft as Suite>⟧.under) }
+    ensures poet_aes_four { (number_of Listed.PoetAesFour ≡ ⟦<PoetAesFour as Suite>⟧.NUMBER) × (functions_of Listed.PoetAesFour ≡ ⟦<PoetAesFour as Suite>⟧.under) }
+    ensures poet_aes_ten { (number_of Listed.PoetAesTen ≡ ⟦<PoetAesTen as Suite>⟧.NUMBER) × (functions_of Listed.PoetAesTen ≡ ⟦<PoetAesTen as Suite>⟧.under) }
+    ensures mirror { (number_of Listed.Mirror ≡ ⟦<Mirror as Suite>⟧.NUMBER) × (functions_of Listed.Mirror ≡ ⟦<Mirror as Suite>⟧.under) }
 {
     0
 }

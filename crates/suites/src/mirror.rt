@@ -1,14 +1,20 @@
-// The mirror suite, number 4, for trials of the mode alone: it is no cipher.
+// The mirror suite, for trials of the mode alone: it is no cipher.
+ghost use Rattle.forms.proofs.Fillings.{filled_bytes};
+ghost use Rattle.forms.proofs.Forming.{chained_lawful};
+ghost use Rattle.forms.proofs.Reversing.{reversal};
+ghost use Rattle.forms.specs.Filling.{filled};
 ghost use Rattle.std.specs.Prelude.{reverse};
 ghost use Rattle.suites.specs.Mirror.{mirror};
-ghost use Rattle.suites.specs.Mirrors.{reversal, mirror_lawful};
+ghost use Rattle.suites.specs.declared.listed.TheConstants.{MIRROR};
 
-use crate::chained::Chained;
-use crate::filling::WholeStays;
+use crate::listed::MIRROR;
 use crate::numbers::big_endian;
+use digests::chained::Chained;
+use digests::filled::Filled;
+use digests::filling::WholeStays;
 use suite::{ChainingHash, Keyed, Permutation, Suite};
 
-// The sixteen bytes in reverse.
+/// The sixteen bytes in reverse.
 #[derive(Clone, Copy)]
 pub struct Reversal;
 
@@ -17,7 +23,7 @@ impl Permutation for Reversal {
 
     ghost dec = { λ _ x. reverse x };
 
-    ghost permutes = { λ k. reversal };
+    ghost permutes = { λ _. reversal };
 
     fn encrypt(&self, x: [u8; 16]) -> [u8; 16] {
         let mut y = x;
@@ -30,7 +36,7 @@ impl Permutation for Reversal {
     }
 }
 
-// A block as it is.
+/// A block as it is.
 #[derive(Clone, Copy)]
 pub struct Identity;
 
@@ -42,6 +48,7 @@ impl ChainingHash for Identity {
     }
 }
 
+/// E and D reverse a block, and F returns it. The key is read and not used.
 pub struct Mirror;
 
 impl Suite for Mirror {
@@ -49,28 +56,26 @@ impl Suite for Mirror {
 
     type ChainingHash = Identity;
 
-    type HeaderDigest = Chained<Reversal, Identity, WholeStays>;
+    type HeaderDigest = Filled<Chained<Reversal, Identity>, WholeStays>;
 
-    ghost NUMBER = { 4 };
+    ghost NUMBER = { MIRROR };
 
-    const NUMBER: u8 = 4;
+    const NUMBER: u8 = MIRROR;
 
     ghost under = { mirror };
 
-    ghost lawful = { mirror_lawful };
+    ghost lawful = { λ _ _. chained_lawful reverse reverse (λ b. b) reversal (λ b p. p) filled filled_bytes };
 
     fn encode(n: u64) -> [u8; 16] {
         big_endian(n)
     }
 
-    fn set_up(
-        _key: [u8; 16],
-    ) -> Keyed<Reversal, Identity, Chained<Reversal, Identity, WholeStays>> {
-        let digest = Chained::new(Reversal, Identity, big_endian(1));
+    fn set_up(_key: [u8; 16]) -> Keyed<Reversal, Identity, Filled<Chained<Reversal, Identity>, WholeStays>> {
+        let chained = Chained::new(Reversal, Identity, big_endian(1));
         Keyed {
             permutation: Reversal,
             hash: Identity,
-            digest,
+            digest: Filled::new(chained),
         }
     }
 }

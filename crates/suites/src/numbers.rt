@@ -1,6 +1,6 @@
 // Numbers as blocks.
 ghost use Rattle.std.specs.Prelude.{◌≡◌};
-ghost use Rattle.suites.specs.Numbers.{big_endian, little_endian, coded};
+ghost use Rattle.forms.specs.Numbers.{big_endian, little_endian, coded};
 
 // The most significant byte first.
 pub fn big_endian(n: u64) -> [u8; 16]

@@ -1,21 +1,20 @@
-// The suites of the POET v2.0 submission, without intermediate tags: number 2, whose chaining hash has four rounds, and number 3, where it has
-// ten.
-ghost use Rattle.aes.specs.Cipher.{cipher};
-ghost use Rattle.aes.specs.Expansion.{schedule};
-ghost use Rattle.std.specs.Prelude.{◌≡◌, ℕ, List, ◌++◌, replicate};
-ghost use Rattle.suites.specs.Filling.{padded};
-ghost use Rattle.suites.specs.Masked.{masked};
-ghost use Rattle.suites.specs.Submission.{chain_key, cipher_key, four_rounds, mask_key, ten_rounds};
-ghost use Rattle.suites.specs.Submissions.{four_rounds_lawful, ten_rounds_lawful};
+// The suites of the POET v2.0 submission without intermediate tags: POET-AES10-AES4, whose chaining hash has four rounds, and
+// POET-AES10-AES10, where it has ten.
+ghost use Rattle.forms.specs.Keyed.{key_of};
+ghost use Rattle.forms.specs.Submitted.{submitted_by, zeros};
+ghost use Rattle.forms.proofs.Forming.{submitted_lawful, zeros_block};
+ghost use Rattle.std.specs.Prelude.{◌≡◌};
 
-use crate::ciphers::{Aes128, FourRounds, KeyedHash};
-use crate::filling::AlwaysPadded;
-use crate::masked::Masked;
+use crate::ciphers::{Aes128, Beside, BlockCipher, FourRounds, KeyedHash};
+use crate::listed::{POET_AES_FOUR, POET_AES_TEN};
 use crate::numbers::{big_endian, coded};
-use aes::Schedule;
-use suite::{ChainingHash, HeaderDigest, Keyed, Suite};
+use digests::filled::Filled;
+use digests::filling::AlwaysPadded;
+use digests::masked::Masked;
+use std::marker::PhantomData;
+use suite::{HeaderDigest, Keyed, Suite};
 
-// The keys that are made from the delivered one: of the permutation, of the masks, and of the chaining hash.
+/// The keys that are made from the delivered one: of the permutation, of the masks, and of the chaining hash.
 #[derive(Clone, Copy)]
 pub struct Keys {
     pub cipher: [u8; 16],
@@ -24,108 +23,80 @@ pub struct Keys {
 }
 
 impl Keys {
-    pub fn new(delivered: [u8; 16]) -> Keys
-        ensures cipher { result.cipher ≡ cipher_key delivered }
-        ensures mask { result.mask ≡ mask_key delivered }
-        ensures chain { result.chain ≡ chain_key delivered }
+    /// The numbers 0, 1 and 2, enciphered by B under the delivered key.
+    pub fn new<B: BlockCipher + Drop>(delivered: [u8; 16]) -> Keys
+        ensures cipher { result.cipher ≡ key_of B.KeyedHash.keyed delivered 0 }
+        ensures mask { result.mask ≡ key_of B.KeyedHash.keyed delivered 1 }
+        ensures chain { result.chain ≡ key_of B.KeyedHash.keyed delivered 2 }
     {
-        let schedule = Schedule::new(delivered);
+        let delivered = B::under(delivered);
         Keys {
-            cipher: schedule.encipher(big_endian(0)),
-            mask: schedule.encipher(big_endian(1)),
-            chain: schedule.encipher(big_endian(2)),
+            cipher: delivered.encrypt(big_endian(0)),
+            mask: delivered.encrypt(big_endian(1)),
+            chain: delivered.encrypt(big_endian(2)),
         }
     }
 }
 
-// The three parts under a key, with `front` before the header.
-fn set_up<H: KeyedHash>(
-    key: [u8; 16],
-    front: &[u8],
-) -> Keyed<Aes128, H, Masked<Aes128, AlwaysPadded>>
-    ensures permutation { result.permutation.0.keys ≡ schedule (cipher_key key) }
-    ensures hash { H.ChainingHash.chain result.hash ≡ H.KeyedHash.keyed (chain_key key) }
-    ensures digest { (r : List ℕ) → masked (cipher result.digest.permutation.0.keys) result.digest.sum result.digest.mask (padded (result.digest.held ++ r)) ≡ masked (cipher (schedule (cipher_key key))) (replicate 16 0) (mask_key key) (padded (front.now ++ r)) }
-{
-    let keys = Keys::new(key);
-    let permutation = Aes128::new(keys.cipher);
-    let mut digest = Masked::new(permutation, keys.mask);
-    digest.absorb(front);
-    Keyed {
-        permutation,
-        hash: H::under(keys.chain),
-        digest,
-    }
+/// The suite with the number N, in the submission's form: of the block cipher B and the chaining hash H.
+pub struct Submission<B, H, const N: u8> {
+    cipher: PhantomData<B>,
+    hash: PhantomData<H>,
 }
 
-// POET-AES10-AES4.
-pub struct Submission4;
+/// POET-AES10-AES4.
+pub type PoetAesFour = Submission<Aes128, FourRounds, POET_AES_FOUR>;
 
-impl Suite for Submission4 {
-    type Permutation = Aes128;
+/// POET-AES10-AES10.
+pub type PoetAesTen = Submission<Aes128, Aes128, POET_AES_TEN>;
 
-    type ChainingHash = FourRounds;
+impl<B: BlockCipher + Copy, H: KeyedHash + Beside<B> + Drop, const N: u8> Suite for Submission<B, H, N> {
+    type Permutation = B;
 
-    type HeaderDigest = Masked<Aes128, AlwaysPadded>;
+    type ChainingHash = H;
 
-    ghost NUMBER = { 2 };
+    type HeaderDigest = Filled<Masked<B>, AlwaysPadded>;
 
-    const NUMBER: u8 = 2;
+    ghost NUMBER = { N };
 
-    ghost under = { four_rounds };
+    const NUMBER: u8 = N;
 
-    ghost lawful = { four_rounds_lawful };
+    ghost under = { submitted_by B.KeyedHash.keyed B.BlockCipher.inverse H.KeyedHash.keyed zeros };
+
+    ghost lawful = { submitted_lawful B.KeyedHash.keyed B.BlockCipher.inverse B.BlockCipher.undone H.KeyedHash.keyed H.KeyedHash.block zeros zeros_block.bytes };
 
     fn encode(n: u64) -> [u8; 16] {
         coded(n)
     }
 
-    fn set_up(key: [u8; 16]) -> Keyed<Aes128, FourRounds, Masked<Aes128, AlwaysPadded>> {
-        set_up::<FourRounds>(key, &[0; 16])
-    }
-}
-
-// POET-AES10-AES10.
-pub struct Submission10;
-
-impl Suite for Submission10 {
-    type Permutation = Aes128;
-
-    type ChainingHash = Aes128;
-
-    type HeaderDigest = Masked<Aes128, AlwaysPadded>;
-
-    ghost NUMBER = { 3 };
-
-    const NUMBER: u8 = 3;
-
-    ghost under = { ten_rounds };
-
-    ghost lawful = { ten_rounds_lawful };
-
-    fn encode(n: u64) -> [u8; 16] {
-        coded(n)
+    // Sixteen zeros stand before every header.
+    fn set_up(key: [u8; 16]) -> Keyed<B, H, Filled<Masked<B>, AlwaysPadded>> {
+        let keys = Keys::new::<B>(key);
+        let permutation = B::under(keys.cipher);
+        let mut digest = Filled::new(Masked::new(permutation, keys.mask));
+        digest.absorb(&[0; 16]);
+        Keyed {
+            permutation,
+            hash: H::under(keys.chain),
+            digest,
+        }
     }
 
-    fn set_up(key: [u8; 16]) -> Keyed<Aes128, Aes128, Masked<Aes128, AlwaysPadded>> {
-        set_up::<Aes128>(key, &[0; 16])
-    }
-
-    fn forth(
-        permutation: &Aes128,
-        hash: &Aes128,
+    fn encrypt_and_hash(
+        permutation: &B,
+        hash: &H,
         x: [u8; 16],
         y: [u8; 16],
     ) -> ([u8; 16], [u8; 16], [u8; 16]) {
-        aes::encipher_three(&permutation.0, &hash.0, x, y)
+        hash.encrypt_and_hash(permutation, x, y)
     }
 
-    fn back(
-        permutation: &Aes128,
-        hash: &Aes128,
+    fn decrypt_and_hash(
+        permutation: &B,
+        hash: &H,
         x: [u8; 16],
         y: [u8; 16],
     ) -> ([u8; 16], [u8; 16], [u8; 16]) {
-        aes::decipher_three(&permutation.0, &hash.0, x, y)
+        hash.decrypt_and_hash(permutation, x, y)
     }
 }

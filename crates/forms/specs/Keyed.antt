@@ -1,0 +1,25 @@
+-- Suites with a chained header digest, and those made of one block cipher.
+use Rattle.std.specs.Prelude.{ℕ, List}
+use Rattle.poet.specs.Functions.{Functions}
+use Rattle.forms.specs.Numbers.{big_endian}
+use Rattle.forms.specs.Chained.{chained}
+
+-- E, D and F are given; numbers are big-endian, and the digest is chained over E and F from N(1).
+abbrev pub chained_by : (enc dec chain fill : List ℕ → List ℕ) → Functions
+chained_by enc dec chain fill = record {
+  enc = enc;
+  dec = dec;
+  chain = chain;
+  num = big_endian;
+  dig = λ H. chained enc chain (big_endian 1) (big_endian 1) (fill H);
+}
+
+-- a key made from the delivered one: a number, enciphered under that
+abbrev pub key_of : (cipher : List ℕ → List ℕ → List ℕ) (delivered : List ℕ) → ℕ → List ℕ
+key_of cipher delivered n = cipher delivered (big_endian n)
+
+-- One block cipher: E and D are the cipher and its inverse under the key made with 1, and F is the
+-- cipher under the key made with 2.
+abbrev pub keyed_by : (cipher inverse : List ℕ → List ℕ → List ℕ) (fill : List ℕ → List ℕ) → List ℕ → Functions
+keyed_by cipher inverse fill L =
+    chained_by (cipher (key_of cipher L 1)) (inverse (key_of cipher L 1)) (cipher (key_of cipher L 2)) fill
