@@ -31,7 +31,8 @@ impl<P: Permutation, H: ChainingHash> Chained<P, H> {
 }
 
 impl<P: Permutation, H: ChainingHash> BlockDigest for Chained<P, H> {
-    ghost rule = { λ s. chained (P.Permutation.enc s.permutation) (H.ChainingHash.chain s.hash) s.x s.y };
+    ghost rule = { λ s. chained (P.Permutation.enc s.permutation) (H.ChainingHash.chain s.hash)
+        s.x s.y };
 
     fn take(&mut self, block: [u8; 16]) {
         let x = xor(self.hash.hash(self.x), block);

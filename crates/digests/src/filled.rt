@@ -6,7 +6,8 @@ use buffer::Buffer;
 use std::marker::PhantomData;
 use suite::HeaderDigest;
 
-/// A digest of whole blocks in progress: a rule gives, for whatever whole blocks are still to come, the block that it would end with.
+/// A digest of whole blocks in progress: a rule gives, for whatever whole blocks are still to come,
+/// the block that it would end with.
 pub trait BlockDigest {
     ghost rule: { Self → List ℕ → List ℕ };
 
@@ -19,8 +20,9 @@ pub trait BlockDigest {
         ensures { result ≡ rule self.now block };
 }
 
-/// A digest of headers in progress: that of the blocks taken, and the bytes behind them. A full block waits until it is known whether more
-/// bytes follow, since the rule of filling may treat the last block in a way of its own.
+/// A digest of headers in progress: that of the blocks taken, and the bytes behind them. A full
+/// block waits until it is known whether more bytes follow, since the rule of filling may treat the
+/// last block in a way of its own.
 #[derive(Drop)]
 pub struct Filled<D, G> {
     digest: D,
@@ -28,7 +30,7 @@ pub struct Filled<D, G> {
     filling: PhantomData<G>,
 }
 
-impl<D: BlockDigest, G: Filling> Filled<D, G> {
+impl<D: BlockDigest + Drop, G: Filling> Filled<D, G> {
     /// A new digest over a new one of whole blocks.
     pub fn new(digest: D) -> Filled<D, G>
         ensures digest { result.digest ≡ digest }
@@ -43,7 +45,8 @@ impl<D: BlockDigest, G: Filling> Filled<D, G> {
 
     // One byte more.
     fn push(&mut self, b: u8)
-        ensures { (r : List ℕ) → D.BlockDigest.rule self.new.digest (G.Filling.fill (self.new.held ++ r)) ≡ D.BlockDigest.rule self.old.digest (G.Filling.fill (self.old.held ++ b ∷ r)) }
+        ensures { (r : List ℕ) → ⟦<Filled<D, G> as HeaderDigest>⟧.rule self.new r
+            ≡ ⟦<Filled<D, G> as HeaderDigest>⟧.rule self.old (b ∷ r) }
     {
         match self.held.full() {
             None => self.held.extend(&[b]),

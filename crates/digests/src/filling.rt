@@ -2,7 +2,8 @@
 ghost use Rattle.std.specs.Prelude.{◌≡◌, ℕ, ◌≤◌, ◌%◌, List, ◌++◌, length, MatchOption};
 ghost use Rattle.forms.specs.Filling.{filled, padded};
 ghost use Rattle.forms.specs.Laws.{KeepsBytes};
-ghost use Rattle.forms.proofs.Fillings.{filled_bytes, filled_front, filled_whole, padded_bytes, padded_front, padded_whole};
+ghost use Rattle.forms.proofs.Fillings.{filled_bytes, filled_front, filled_whole};
+ghost use Rattle.forms.proofs.Fillings.{padded_bytes, padded_front, padded_whole};
 
 use poet::complete;
 
@@ -16,11 +17,13 @@ pub trait Filling {
     /// What the last bytes, sixteen at most, are filled to: a block, or two.
     fn last(held: &[u8]) -> ([u8; 16], Option<[u8; 16]>)
         requires { length held.now ≤ 16 }
-        ensures { MatchOption result.1 (fill held.now ≡ result.0) (λ b. fill held.now ≡ result.0 ++ b) };
+        ensures { MatchOption result.1 (fill held.now ≡ result.0)
+            (λ b. fill held.now ≡ result.0 ++ b) };
 
     // a block that more bytes follow stays as it is
     ghost front: { (p q : List ℕ) → length p ≡ 16 → 1 ≤ length q → fill (p ++ q) ≡ p ++ fill q };
 
+    // one whole block or more comes of it, and bytes of bytes
     ghost whole: { (H : List ℕ) → (16 ≤ length (fill H)) × (length (fill H) % 16 ≡ 0) };
 
     ghost bytes: { KeepsBytes fill };

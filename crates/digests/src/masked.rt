@@ -8,7 +8,8 @@ use crate::filled::BlockDigest;
 use poet::xor;
 use suite::Permutation;
 
-/// A masked digest in progress, as the POET v2.0 submission has it: the sum so far, and the mask of the next block.
+/// A masked digest in progress, as the POET v2.0 submission has it: the sum so far, and the mask of
+/// the next block.
 #[derive(Drop)]
 pub struct Masked<P> {
     permutation: P,
@@ -31,7 +32,8 @@ impl<P: Permutation> Masked<P> {
 
     // The sum with one block more.
     fn with(&self, block: [u8; 16]) -> [u8; 16]
-        ensures { result ≡ self.now.sum ⊕ P.Permutation.enc self.now.permutation (block ⊕ self.now.mask) }
+        ensures { result
+            ≡ self.now.sum ⊕ P.Permutation.enc self.now.permutation (block ⊕ self.now.mask) }
     {
         xor(self.sum, self.permutation.encrypt(xor(block, self.mask)))
     }

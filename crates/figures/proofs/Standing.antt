@@ -5,10 +5,11 @@ use Rattle.poet.specs.Seal.{Limits, Seals}
 use Rattle.poet.specs.Rows.{takes, gives, next, rows, last, cut, start, size, zed, sealing, cipher, tag}
 use Rattle.poet.proofs.Xors.{bytes_nil, bytes_replicate}
 use Rattle.poet.proofs.Computing.{computing_law}
-use Rattle.suites.specs.Filling.{padded, filled}
-use Rattle.suites.specs.Chained.{chain_x, chain_y, chained}
+use Rattle.forms.specs.Filling.{padded, filled}
+use Rattle.forms.specs.Chained.{chain_x, chain_y, chained}
+use Rattle.suites.specs.declared.listed.Listed.TheVariants.{Mirror}
 use Rattle.suites.specs.Mirror.{mirror}
-use Rattle.suites.specs.Mirrors.{mirror_lawful}
+use Rattle.suites.proofs.Lawful.{listed_lawful}
 use Rattle.session.specs.declared.script.Answer.TheVariants.{Body}
 use Rattle.session.specs.Calls.{answered}
 use Rattle.session.specs.Sessions.{given_of}
@@ -25,7 +26,7 @@ limits : (M : List ℕ) → Bytes M → T (leb 1 (length M)) → T (leb (length 
 limits M b some most = record { header_bytes = bytes_nil; header_most = lit≤ tt; bytes = b; some = lit≤ some; most = lit≤ most }
 
 computed : (key M C T : List ℕ) → Limits [] M → C ≡ cipher (mirror key) [] M → T ≡ tag (mirror key) [] M → Seals (mirror key) [] M C T
-computed key M C T l c t = (computing_law (mirror key) (mirror_lawful (replicate 16 0) some_key) [] M C T).0 (record { limits = l; cipher_is = c; tag_is = t })
+computed key M C T l c t = (computing_law (mirror key) (listed_lawful Mirror (replicate 16 0) some_key) [] M C T).0 (record { limits = l; cipher_is = c; tag_is = t })
 
 doors_bytes : Bytes (bytes doors)
 unfolding Bytes

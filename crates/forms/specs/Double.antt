@@ -1,5 +1,6 @@
 -- Blocks as polynomials over the bits, modulo x^128 + x^7 + x^2 + x + 1, in the order of bits of
--- NIST's GCM: the coefficient of 1 is the top bit of byte 0, and that of x^127 the low bit of byte 15.
+-- NIST's GCM: the coefficient of 1 is the top bit of byte 0, and that of x^127 the low bit of byte
+-- 15.
 use Rattle.std.specs.Prelude.{ℕ, zero, suc, ◌+◌, ◌-◌, ◌*◌, ◌/◌, ◌%◌, ◌^◌, List, [], ◌∷◌, slice_index}
 use Rattle.poet.specs.Bytes.{◌⊕◌}
 
@@ -9,7 +10,8 @@ unfoldable pub moved : (c : ℕ) → List ℕ → List ℕ
 moved c [] = []
 moved c (x ∷ b) = (128 * c + x / 2) ∷ moved (x % 2) b
 
--- x times a block: each bit moves one place on, and E1 is added to byte 0 for the one that falls out
+-- x times a block: each bit moves one place on, and E1 is added to byte 0 for the one that falls
+-- out
 unfoldable pub double : List ℕ → List ℕ
 double b = moved 0 b ⊕ ((0xE1 * (slice_index b 15 % 2)) ∷ [])
 

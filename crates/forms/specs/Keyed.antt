@@ -14,12 +14,18 @@ chained_by enc dec chain fill = record {
   dig = λ H. chained enc chain (big_endian 1) (big_endian 1) (fill H);
 }
 
+-- a function from block to block, under each key
+abbrev pub Cipher : Type 0
+Cipher = List ℕ → List ℕ → List ℕ
+
 -- a key made from the delivered one: a number, enciphered under that
-abbrev pub key_of : (cipher : List ℕ → List ℕ → List ℕ) (delivered : List ℕ) → ℕ → List ℕ
+abbrev pub key_of : Cipher → (delivered : List ℕ) → ℕ → List ℕ
 key_of cipher delivered n = cipher delivered (big_endian n)
 
 -- One block cipher: E and D are the cipher and its inverse under the key made with 1, and F is the
 -- cipher under the key made with 2.
-abbrev pub keyed_by : (cipher inverse : List ℕ → List ℕ → List ℕ) (fill : List ℕ → List ℕ) → List ℕ → Functions
+abbrev pub keyed_by : (cipher inverse : Cipher) (fill : List ℕ → List ℕ) → List ℕ → Functions
 keyed_by cipher inverse fill L =
-    chained_by (cipher (key_of cipher L 1)) (inverse (key_of cipher L 1)) (cipher (key_of cipher L 2)) fill
+    let K = key_of cipher L 1 in
+    let F = key_of cipher L 2 in
+    chained_by (cipher K) (inverse K) (cipher F) fill

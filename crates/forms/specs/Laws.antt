@@ -3,21 +3,22 @@ use Rattle.std.specs.Prelude.{◌≡◌, ℕ, ◌<◌, ◌||◌, List, bit_xor, 
 use Rattle.poet.specs.Bytes.{Bytes, Block}
 use Rattle.poet.specs.Functions.{Permutes, Lawful}
 use Rattle.forms.specs.Double.{double, coefficient, before}
-use Rattle.forms.specs.Keyed.{keyed_by}
+use Rattle.forms.specs.Keyed.{Cipher, keyed_by}
 use Rattle.forms.specs.Submitted.{submitted_by}
 
 -- Doubling is by x: each coefficient goes one place up, and the last one is added to those of 1, x,
 -- x^2 and x^7, since x^128 is their sum.
 abbrev pub DoubleLaw : Type 0
 DoubleLaw = (b : List ℕ) → Block b → (i : ℕ) → i < 128
-    → coefficient (double b) i ≡ bit_xor (before b i) (if i == 0 || i == 1 || i == 2 || i == 7 then coefficient b 127 else 0)
+    → coefficient (double b) i
+    ≡ bit_xor (before b i) (if i == 0 || i == 1 || i == 2 || i == 7 then coefficient b 127 else 0)
 
 -- a cipher and its inverse, under every key
-abbrev pub Inverts : (cipher inverse : List ℕ → List ℕ → List ℕ) → Type 0
+abbrev pub Inverts : (cipher inverse : Cipher) → Type 0
 Inverts cipher inverse = (key : List ℕ) → Block key → Permutes (cipher key) (inverse key)
 
 -- a block comes of a block, under every key
-abbrev pub Hashes : (hash : List ℕ → List ℕ → List ℕ) → Type 0
+abbrev pub Hashes : (hash : Cipher) → Type 0
 Hashes hash = (key b : List ℕ) → Block key → Block b → Block (hash key b)
 
 -- bytes come of bytes
@@ -26,12 +27,13 @@ KeepsBytes fill = (H : List ℕ) → Bytes H → Bytes (fill H)
 
 -- Every block cipher and every rule of filling make a lawful suite.
 abbrev pub KeyedLaw : Type 0
-KeyedLaw = (cipher inverse : List ℕ → List ℕ → List ℕ) → Inverts cipher inverse
-    → (fill : List ℕ → List ℕ) → KeepsBytes fill → (L : List ℕ) → Block L → Lawful (keyed_by cipher inverse fill L)
+KeyedLaw = (cipher inverse : Cipher) → Inverts cipher inverse
+    → (fill : List ℕ → List ℕ) → KeepsBytes fill
+    → (L : List ℕ) → Block L → Lawful (keyed_by cipher inverse fill L)
 
--- Every block cipher and every hash make a lawful suite in the submission's form, whatever bytes stand
--- before the header.
+-- Every block cipher and every hash make a lawful suite in the submission's form, whatever bytes
+-- stand before the header.
 abbrev pub SubmittedLaw : Type 0
-SubmittedLaw = (cipher inverse : List ℕ → List ℕ → List ℕ) → Inverts cipher inverse
-    → (hash : List ℕ → List ℕ → List ℕ) → Hashes hash → (front : List ℕ) → Bytes front
+SubmittedLaw = (cipher inverse : Cipher) → Inverts cipher inverse
+    → (hash : Cipher) → Hashes hash → (front : List ℕ) → Bytes front
     → (SK : List ℕ) → Block SK → Lawful (submitted_by cipher inverse hash front SK)

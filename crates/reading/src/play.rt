@@ -22,7 +22,10 @@ pub fn play(
     ensures { Played (parts_of d.entry) out.old out.new asks.now result }
 {
     let listed = told(d.suite)?;
-    at_listed!(listed, play_as(heap, d.key, d.header, d.ciphertext, d.tag, out, asks))
+    at_listed!(
+        listed,
+        play_as(heap, d.key, d.header, d.ciphertext, d.tag, out, asks)
+    )
 }
 
 // The same under any suite, from the parts of a delivery.

@@ -10,10 +10,8 @@ use session::keys::KeyPlace;
 use session::play::play;
 use session::script::{Course, Stretch};
 use suite::Suite;
+use suites::at_listed;
 use suites::listed::Listed;
-use suites::mirror::Mirror;
-use suites::shaft::Shaft;
-use suites::submission::{Submission4, Submission10};
 use text::{Body, Fault, Piece, Written};
 
 fn main(rt: HostRuntime) -> anyhow::Result<()> {
@@ -35,10 +33,7 @@ fn main(rt: HostRuntime) -> anyhow::Result<()> {
 // Plays it under the suite with its number, if that is listed.
 fn run(rt: &HostRuntime, written: &Written) -> anyhow::Result<()> {
     match Listed::try_from(written.suite) {
-        Ok(Listed::Shaft) => under::<Shaft>(rt, written),
-        Ok(Listed::Submission4) => under::<Submission4>(rt, written),
-        Ok(Listed::Submission10) => under::<Submission10>(rt, written),
-        Ok(Listed::Mirror) => under::<Mirror>(rt, written),
+        Ok(listed) => at_listed!(listed, under(rt, written)),
         Err(refused) => refuse(rt, refused),
     }
 }

@@ -17,7 +17,7 @@ use Rattle.suites.specs.declared.listed.Listed.{Listed}
 use Rattle.suites.specs.declared.listed.Listed.TheVariants.{Shaft, PoetAesFour, PoetAesTen, Mirror}
 use Rattle.suites.specs.Listed.{number_of, listed, LawfulLaw, NumberLaw}
 
-aes_inverts : Inverts aes inv_aes
+pub aes_inverts : Inverts aes inv_aes
 aes_inverts key k = cipher_permutes (schedule key) (expands key k)
 
 aes4_hashes : Hashes aes4

@@ -14,7 +14,7 @@ pub chained_new : (e c e' c' : List ℕ → List ℕ) (x y a h : List ℕ) (fill
     → ◌≡◌ {A = List ℕ → List ℕ} (λ r. chained e c x y (fill (h ++ r))) (λ r. chained e' c' a a (fill r))
 chained_new e c e' c' x y a h fill ee ce xe ye he =
     let p : (r : List ℕ) → chained e c x y (fill (h ++ r)) ≡ chained e' c' a a (fill r) =
-      λ r. ap (λ z. chained e c x y (fill (z ++ r))) he ∙ ap₂ (λ u v. chained u v x y (fill r)) ee ce ∙ ap₂ (λ u v. chained e' c' u v (fill r)) xe ye
+    λ r. ap (λ z. chained e c x y (fill (z ++ r))) he ∙ ap₂ (λ u v. chained u v x y (fill r)) ee ce ∙ ap₂ (λ u v. chained e' c' u v (fill r)) xe ye
     in
     λ i r. p r i
 
@@ -23,6 +23,6 @@ pub masked_new : (rule : List ℕ → List ℕ) (e e' : List ℕ → List ℕ) (
     → ((r : List ℕ) → rule r ≡ masked e S L (fill (h ++ (front ++ r)))) → ◌≡◌ {A = List ℕ → List ℕ} rule (λ r. masked e' S' L' (fill (front ++ r)))
 masked_new rule e e' S S' L L' h front fill ee Se Le he taken =
     let p : (r : List ℕ) → rule r ≡ masked e' S' L' (fill (front ++ r)) =
-      λ r. taken r ∙ ap (λ z. masked e S L (fill (z ++ (front ++ r)))) he ∙ ap (λ u. masked u S L (fill (front ++ r))) ee ∙ ap₂ (λ u v. masked e' u v (fill (front ++ r))) Se Le
+    λ r. taken r ∙ ap (λ z. masked e S L (fill (z ++ (front ++ r)))) he ∙ ap (λ u. masked u S L (fill (front ++ r))) ee ∙ ap₂ (λ u v. masked e' u v (fill (front ++ r))) Se Le
     in
     λ i r. p r i

@@ -1,4 +1,5 @@
--- The list of suites: the number of each, which is listed under a number, and the functions of each.
+-- The list of suites: the number of each, which is listed under a number, and the functions of
+-- each.
 use Rattle.std.specs.Prelude.{◌≡◌, ℕ, List, Ok, Err, Result, ◌↔◌, ◌==◌, if◌then◌else◌}
 use Rattle.fault.specs.declared.kinds.KeyFault.{KeyFault}
 use Rattle.fault.specs.declared.kinds.KeyFault.TheVariants.{Suite}
@@ -33,6 +34,10 @@ listed n =
     else if n == POET_AES_TEN then Ok PoetAesTen
     else if n == MIRROR then Ok Mirror
     else Err (record { fault = Suite; place = n })
+
+-- the listed suite s is that with the number n and these functions
+abbrev pub IsSuite : (s : Listed) (n : ℕ) (under : List ℕ → Functions) → Type 0
+IsSuite s n under = (number_of s ≡ n) × (functions_of s ≡ under)
 
 -- Each suite is listed under its own number and no other: so no two have one number.
 abbrev pub NumberLaw : Type 0

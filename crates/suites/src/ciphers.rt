@@ -3,6 +3,7 @@ ghost use Rattle.aes.specs.Cipher.{cipher, cipher4, inv_cipher};
 ghost use Rattle.aes.specs.Expansion.{aes, aes4, inv_aes, schedule};
 ghost use Rattle.aes.proofs.Schedules.{expands, held};
 ghost use Rattle.aes.proofs.Undone.{cipher4_permutes, cipher_permutes};
+ghost use Rattle.forms.specs.Keyed.{Cipher};
 ghost use Rattle.forms.specs.Laws.{Hashes, Inverts};
 ghost use Rattle.std.proofs.Common.{ap};
 ghost use Rattle.std.specs.Prelude.{◌≡◌, ℕ, List};
@@ -13,7 +14,7 @@ use suite::{ChainingHash, Permutation};
 /// A chaining hash that is made from a key.
 pub trait KeyedHash: ChainingHash {
     // the hash under each key
-    ghost keyed: { List ℕ → List ℕ → List ℕ };
+    ghost keyed: { Cipher };
 
     // what holds of a value that was made from a key
     ghost IsUnder: { Self → List ℕ → Type 0 };
@@ -21,23 +22,27 @@ pub trait KeyedHash: ChainingHash {
     fn under(key: [u8; 16]) -> Self
         ensures { IsUnder result key };
 
-    ghost hashes: { (h : Self) (key : List ℕ) → IsUnder h key → Self.ChainingHash.chain h ≡ keyed key };
+    ghost hashes: { (h : Self) (key : List ℕ) → IsUnder h key
+        → Self.ChainingHash.chain h ≡ keyed key };
 
     ghost block: { Hashes keyed };
 }
 
 /// A block cipher that is made from a key. As a hash it enciphers.
 pub trait BlockCipher: Permutation + KeyedHash {
-    ghost inverse: { List ℕ → List ℕ → List ℕ };
+    ghost inverse: { Cipher };
 
-    ghost encrypts: { (c : Self) (key : List ℕ) → Self.KeyedHash.IsUnder c key → Self.Permutation.enc c ≡ Self.KeyedHash.keyed key };
+    ghost encrypts: { (c : Self) (key : List ℕ) → Self.KeyedHash.IsUnder c key
+        → Self.Permutation.enc c ≡ Self.KeyedHash.keyed key };
 
-    ghost decrypts: { (c : Self) (key : List ℕ) → Self.KeyedHash.IsUnder c key → Self.Permutation.dec c ≡ inverse key };
+    ghost decrypts: { (c : Self) (key : List ℕ) → Self.KeyedHash.IsUnder c key
+        → Self.Permutation.dec c ≡ inverse key };
 
     ghost undone: { Inverts Self.KeyedHash.keyed inverse };
 }
 
-/// A chaining hash beside the permutation P: the three calls that a row wants of them, side by side where they can.
+/// A chaining hash beside the permutation P: the three calls that a row wants of them, side by side
+/// where they can.
 pub trait Beside<P: Permutation>: ChainingHash {
     /// x encrypted and hashed, and y hashed.
     fn encrypt_and_hash(
@@ -140,7 +145,8 @@ impl Beside<Aes128> for Aes128 {
     }
 }
 
-/// The first four rounds of AES-128 with whitening before and after, all of them whole: the POET v2.0 submission's hash of few rounds.
+/// The first four rounds of AES-128 with whitening before and after, all of them whole: the POET
+/// v2.0 submission's hash of few rounds.
 #[derive(Clone, Copy)]
 pub struct FourRounds(Schedule);
 

@@ -1,6 +1,6 @@
 // The listed suites, told by their numbers.
 ghost use Rattle.std.specs.Prelude.{◌≡◌};
-ghost use Rattle.suites.specs.Listed.{LawfulLaw, NumberLaw, functions_of, listed, number_of};
+ghost use Rattle.suites.specs.Listed.{IsSuite, LawfulLaw, NumberLaw, listed};
 
 use crate::mirror::Mirror;
 use crate::shaft::Shaft;
@@ -45,7 +45,8 @@ impl TryFrom<u8> for Listed {
     }
 }
 
-/// Calls a function that is generic over the suite, at the type of a listed suite: `at_listed!(suite, seal(key, message))`.
+/// Calls a function that is generic over the suite, at the type of a listed suite:
+/// `at_listed!(suite, seal(key, message))`.
 #[macro_export]
 macro_rules! at_listed {
     ($listed:expr, $($function:ident)::+ ($($argument:expr),* $(,)?)) => {
@@ -66,14 +67,17 @@ macro_rules! at_listed {
     };
 }
 
-/// Each listed suite is listed under its own number and no other, its functions are those of its `Suite`, and they are lawful under every key.
+/// Each listed suite is listed under its own number and no other, its functions are those of its
+/// `Suite`, and they are lawful under every key.
 pub fn listed_stands() -> u8
     ensures number { NumberLaw }
     ensures lawful { LawfulLaw }
-    ensures shaft { (number_of Listed.Shaft ≡ ⟦<Shaft as Suite>⟧.NUMBER) × (functions_of Listed.Shaft ≡ ⟦<Shaft as Suite>⟧.under) }
-    ensures poet_aes_four { (number_of Listed.PoetAesFour ≡ ⟦<PoetAesFour as Suite>⟧.NUMBER) × (functions_of Listed.PoetAesFour ≡ ⟦<PoetAesFour as Suite>⟧.under) }
-    ensures poet_aes_ten { (number_of Listed.PoetAesTen ≡ ⟦<PoetAesTen as Suite>⟧.NUMBER) × (functions_of Listed.PoetAesTen ≡ ⟦<PoetAesTen as Suite>⟧.under) }
-    ensures mirror { (number_of Listed.Mirror ≡ ⟦<Mirror as Suite>⟧.NUMBER) × (functions_of Listed.Mirror ≡ ⟦<Mirror as Suite>⟧.under) }
+    ensures shaft { IsSuite Listed.Shaft ⟦<Shaft as Suite>⟧.NUMBER ⟦<Shaft as Suite>⟧.under }
+    ensures poet_aes_four { IsSuite Listed.PoetAesFour
+        ⟦<PoetAesFour as Suite>⟧.NUMBER ⟦<PoetAesFour as Suite>⟧.under }
+    ensures poet_aes_ten { IsSuite Listed.PoetAesTen
+        ⟦<PoetAesTen as Suite>⟧.NUMBER ⟦<PoetAesTen as Suite>⟧.under }
+    ensures mirror { IsSuite Listed.Mirror ⟦<Mirror as Suite>⟧.NUMBER ⟦<Mirror as Suite>⟧.under }
 {
     0
 }

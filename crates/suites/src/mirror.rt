@@ -64,13 +64,14 @@ impl Suite for Mirror {
 
     ghost under = { mirror };
 
-    ghost lawful = { λ _ _. chained_lawful reverse reverse (λ b. b) reversal (λ b p. p) filled filled_bytes };
+    ghost lawful = { λ _ _. chained_lawful reverse reverse (λ b. b) reversal (λ b p. p)
+        filled filled_bytes };
 
     fn encode(n: u64) -> [u8; 16] {
         big_endian(n)
     }
 
-    fn set_up(_key: [u8; 16]) -> Keyed<Reversal, Identity, Filled<Chained<Reversal, Identity>, WholeStays>> {
+    fn set_up(_key: [u8; 16]) -> Keyed<Reversal, Identity, Self::HeaderDigest> {
         let chained = Chained::new(Reversal, Identity, big_endian(1));
         Keyed {
             permutation: Reversal,

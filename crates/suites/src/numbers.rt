@@ -16,7 +16,8 @@ pub fn little_endian(n: u64) -> [u8; 16]
     u128::from(n).to_le_bytes()
 }
 
-// The submission's numbers: a constant below 8 is big-endian, and a length in bits, which is more, little-endian.
+// The submission's numbers: a constant below 8 is big-endian, and a length in bits, which is more,
+// little-endian.
 pub fn coded(n: u64) -> [u8; 16]
     ensures { result ≡ coded n }
 {

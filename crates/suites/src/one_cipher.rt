@@ -12,8 +12,8 @@ use suite::{Keyed, Suite};
 
 /// The suite with the number N that is made of the block cipher B, and fills headers by the rule G.
 ///
-/// E and D are the cipher under one key and F is the cipher under another. Both keys are made from the delivered one. Numbers are big-endian,
-/// and the header digest is chained over E and F.
+/// E and D are the cipher under one key and F is the cipher under another. Both keys are made from
+/// the delivered one. Numbers are big-endian, and the header digest is chained over E and F.
 pub struct OneCipher<B, G, const N: u8> {
     cipher: PhantomData<B>,
     filling: PhantomData<G>,
@@ -32,7 +32,8 @@ impl<B: BlockCipher + Beside<B> + Copy, G: Filling, const N: u8> Suite for OneCi
 
     ghost under = { keyed_by B.KeyedHash.keyed B.BlockCipher.inverse G.Filling.fill };
 
-    ghost lawful = { keyed_lawful B.KeyedHash.keyed B.BlockCipher.inverse B.BlockCipher.undone G.Filling.fill G.Filling.bytes };
+    ghost lawful = { keyed_lawful B.KeyedHash.keyed B.BlockCipher.inverse B.BlockCipher.undone
+        G.Filling.fill G.Filling.bytes };
 
     fn encode(n: u64) -> [u8; 16] {
         big_endian(n)

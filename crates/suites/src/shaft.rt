@@ -1,4 +1,5 @@
-// The shaft suite: AES-128 under two keys that come from the delivered one; a header of whole blocks stays as it is.
+// The shaft suite: AES-128 under two keys that come from the delivered one; a header of whole
+// blocks stays as it is.
 use crate::ciphers::Aes128;
 use crate::listed::SHAFT;
 use crate::one_cipher::OneCipher;

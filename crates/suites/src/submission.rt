@@ -1,5 +1,5 @@
-// The suites of the POET v2.0 submission without intermediate tags: POET-AES10-AES4, whose chaining hash has four rounds, and
-// POET-AES10-AES10, where it has ten.
+// The suites of the POET v2.0 submission without intermediate tags: POET-AES10-AES4, whose chaining
+// hash has four rounds, and POET-AES10-AES10, where it has ten.
 ghost use Rattle.forms.specs.Keyed.{key_of};
 ghost use Rattle.forms.specs.Submitted.{submitted_by, zeros};
 ghost use Rattle.forms.proofs.Forming.{submitted_lawful, zeros_block};
@@ -14,7 +14,8 @@ use digests::masked::Masked;
 use std::marker::PhantomData;
 use suite::{HeaderDigest, Keyed, Suite};
 
-/// The keys that are made from the delivered one: of the permutation, of the masks, and of the chaining hash.
+/// The keys that are made from the delivered one: of the permutation, of the masks, and of the
+/// chaining hash.
 #[derive(Clone, Copy)]
 pub struct Keys {
     pub cipher: [u8; 16],
@@ -38,7 +39,8 @@ impl Keys {
     }
 }
 
-/// The suite with the number N, in the submission's form: of the block cipher B and the chaining hash H.
+/// The suite with the number N, in the submission's form: of the block cipher B and the chaining
+/// hash H.
 pub struct Submission<B, H, const N: u8> {
     cipher: PhantomData<B>,
     hash: PhantomData<H>,
@@ -50,7 +52,11 @@ pub type PoetAesFour = Submission<Aes128, FourRounds, POET_AES_FOUR>;
 /// POET-AES10-AES10.
 pub type PoetAesTen = Submission<Aes128, Aes128, POET_AES_TEN>;
 
-impl<B: BlockCipher + Copy, H: KeyedHash + Beside<B> + Drop, const N: u8> Suite for Submission<B, H, N> {
+impl<B, H, const N: u8> Suite for Submission<B, H, N>
+where
+    B: BlockCipher + Copy,
+    H: KeyedHash + Beside<B> + Drop,
+{
     type Permutation = B;
 
     type ChainingHash = H;
@@ -63,7 +69,8 @@ impl<B: BlockCipher + Copy, H: KeyedHash + Beside<B> + Drop, const N: u8> Suite 
 
     ghost under = { submitted_by B.KeyedHash.keyed B.BlockCipher.inverse H.KeyedHash.keyed zeros };
 
-    ghost lawful = { submitted_lawful B.KeyedHash.keyed B.BlockCipher.inverse B.BlockCipher.undone H.KeyedHash.keyed H.KeyedHash.block zeros zeros_block.bytes };
+    ghost lawful = { submitted_lawful B.KeyedHash.keyed B.BlockCipher.inverse B.BlockCipher.undone
+        H.KeyedHash.keyed H.KeyedHash.block zeros zeros_block.bytes };
 
     fn encode(n: u64) -> [u8; 16] {
         coded(n)

@@ -1,4 +1,4 @@
--- The older digest goes on block by block, and its suites are lawful.
+-- Nothing to believe: the older digest goes on block by block, and its suites are lawful.
 use Rattle.std.specs.Prelude.{◌≡◌, ℕ, suc, ◌+◌, ◌-◌, ◌*◌, ◌/◌, ◌%◌, ◌<◌, ◌≤◌, Bool, true, false, cond, ◌&&◌, ltb, List, [], ◌∷◌, ◌++◌, length, take, replicate, ◌==◌, nat_lt, refl}
 use Rattle.std.proofs.Math.Path.{ap, ap₂}
 use Rattle.std.proofs.Common.{inl, inr, sym, ◌∙◌, arith, length-append, length-take, take_all}
@@ -7,19 +7,18 @@ use Rattle.poet.specs.Bytes.{Bytes, Block, block, ◌⊕◌}
 use Rattle.poet.specs.Functions.{Lawful}
 use Rattle.poet.proofs.Rows.{block_block}
 use Rattle.poet.proofs.Xors.{block_xor}
-use Rattle.aes.specs.Expansion.{aes}
-use Rattle.suites.specs.Numbers.{big_endian}
-use Rattle.suites.specs.Double.{double}
-use Rattle.suites.specs.Doubles.{double_block}
-use Rattle.suites.specs.Filling.{filled}
-use Rattle.suites.specs.Fillings.{stays, filled_front, filled_whole, filled_end, filled_bytes}
-use Rattle.suites.specs.Chains.{block_next}
-use Rattle.suites.specs.Masked.{mask, summed}
-use Rattle.suites.specs.Sums.{sum_next, mask_next, mask_block, sum_block}
-use Rattle.suites.specs.Submission.{cipher_key, mask_key, chain_key, zeros}
-use Rattle.suites.specs.Submissions.{zeros_block}
-use Rattle.suites.specs.Ciphers.{aes_permutes, aes_block}
-use Rattle.suites.specs.Endian.{big_endian_block, coded_block, either_block}
+use Rattle.forms.specs.Double.{double}
+use Rattle.forms.specs.Filling.{filled}
+use Rattle.forms.specs.Keyed.{Cipher, key_of}
+use Rattle.forms.specs.Laws.{Inverts, Hashes}
+use Rattle.forms.specs.Masked.{mask, summed}
+use Rattle.forms.specs.Submitted.{zeros}
+use Rattle.forms.proofs.Chains.{block_next}
+use Rattle.forms.proofs.Doubles.{double_block}
+use Rattle.forms.proofs.Endian.{coded_block, either_block}
+use Rattle.forms.proofs.Fillings.{stays, filled_front, filled_whole, filled_end, filled_bytes}
+use Rattle.forms.proofs.Forming.{key_block, zeros_block}
+use Rattle.forms.proofs.Sums.{sum_next, mask_next, mask_block, sum_block}
 use Rattle.trials.specs.Older.{last_mask, older, older_suite}
 
 last_front : (p q M : List ℕ) → length p ≡ 16 → 1 ≤ length q → last_mask (p ++ q) M ≡ last_mask q M
@@ -78,14 +77,14 @@ older_block e eb S L sb lb H hb =
     eb _ (block_xor _ _ (sum_block e eb S L sb lb (filled H) (filled_bytes H hb) n (omega arith))
     (block_xor _ _ (block_block n (filled H) (omega arith) (filled_bytes H hb)) (last_block H (mask L n) (mask_block L lb n))))
 
-pub older_lawful : (hash : List ℕ → List ℕ → List ℕ) → ((key b : List ℕ) → Block key → Block b → Block (hash key b)) → (SK : List ℕ) → Block SK → Lawful (older_suite hash SK)
-older_lawful hash hb SK b =
-    let k = aes_permutes (cipher_key SK) (aes_block SK (big_endian 0) b (big_endian_block 0)) in
-    let l : Block (mask_key SK) = aes_block SK (big_endian 1) b (big_endian_block 1) in
-    let f : Block (chain_key SK) = aes_block SK (big_endian 2) b (big_endian_block 2) in
+pub older_lawful : (cipher inverse : Cipher) → Inverts cipher inverse → (hash : Cipher) → Hashes hash
+    → (SK : List ℕ) → Block SK → Lawful (older_suite cipher inverse hash SK)
+older_lawful cipher inverse undone hash hb SK b =
+    let made = key_block cipher inverse undone SK b in
+    let k = undone (key_of cipher SK 0) (made 0) in
     record {
       permutes = k;
-      chain_block = λ x p. hb (chain_key SK) x f p;
+      chain_block = λ x p. hb (key_of cipher SK 2) x (made 2) p;
       num_block = λ n _. coded_block n;
-      dig_block = λ h p. older_block (aes (cipher_key SK)) k.enc_block zeros (mask_key SK) zeros_block l h p;
+      dig_block = λ h p. older_block (cipher (key_of cipher SK 0)) k.enc_block zeros (key_of cipher SK 1) zeros_block (made 1) h p;
     }

@@ -1,14 +1,16 @@
 // The submission's suites with the older form of its header digest, by which its published vectors were made.
+ghost use Rattle.aes.specs.Expansion.{aes, inv_aes};
 ghost use Rattle.std.specs.Prelude.{◌≡◌, ℕ, ◌≤◌, List, [], ◌∷◌, ◌++◌, length, replicate};
+ghost use Rattle.suites.proofs.Lawful.{aes_inverts};
 ghost use Rattle.trials.specs.Older.{last_mask, older, older_suite};
 ghost use Rattle.trials.specs.Olders.{older_lawful};
 
 use buffer::Buffer;
+use digests::doubling::double;
 use poet::{complete, xor};
 use std::marker::PhantomData;
 use suite::{HeaderDigest, Keyed, Permutation, Suite};
 use suites::ciphers::{Aes128, KeyedHash};
-use suites::doubling::double;
 use suites::numbers::coded;
 use suites::submission::Keys;
 
@@ -23,7 +25,7 @@ pub struct Older<P> {
     held: Buffer<16>,
 }
 
-impl<P: Permutation> Older<P> {
+impl<P: Permutation + Drop> Older<P> {
     fn new(permutation: P, mask: [u8; 16]) -> Older<P>
         ensures parts { (result.permutation ≡ permutation) × (result.mask ≡ mask) }
         ensures none { (result.sum ≡ replicate 16 0) × (result.held ≡ []) }
@@ -38,7 +40,8 @@ impl<P: Permutation> Older<P> {
 
     // One byte more.
     fn push(&mut self, b: u8)
-        ensures { (r : List ℕ) → older (P.Permutation.enc self.new.permutation) self.new.sum self.new.mask (self.new.held ++ r) ≡ older (P.Permutation.enc self.old.permutation) self.old.sum self.old.mask (self.old.held ++ b ∷ r) }
+        ensures { (r : List ℕ) → ⟦<Older<P> as HeaderDigest>⟧.rule self.new r
+            ≡ ⟦<Older<P> as HeaderDigest>⟧.rule self.old (b ∷ r) }
     {
         match self.held.full() {
             None => self.held.extend(&[b]),
@@ -103,17 +106,17 @@ impl<H: KeyedHash + Drop> Suite for OlderSuite<H> {
 
     const NUMBER: u8 = 0;
 
-    ghost under = { older_suite H.KeyedHash.keyed };
+    ghost under = { older_suite aes inv_aes H.KeyedHash.keyed };
 
-    ghost lawful = { older_lawful H.KeyedHash.keyed H.KeyedHash.block };
+    ghost lawful = { older_lawful aes inv_aes aes_inverts H.KeyedHash.keyed H.KeyedHash.block };
 
     fn encode(n: u64) -> [u8; 16] {
         coded(n)
     }
 
     fn set_up(key: [u8; 16]) -> Keyed<Aes128, H, Older<Aes128>> {
-        let keys = Keys::new(key);
-        let permutation = Aes128::new(keys.cipher);
+        let keys = Keys::new::<Aes128>(key);
+        let permutation = Aes128::under(keys.cipher);
         Keyed {
             permutation,
             hash: H::under(keys.chain),

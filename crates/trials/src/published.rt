@@ -105,7 +105,7 @@ const PUBLISHED: [Published; 4] = [
 #[test]
 fn keys(rt: HostRuntime) {
     for v in &PUBLISHED {
-        let keys = Keys::new(v.delivered);
+        let keys = Keys::new::<Aes128>(v.delivered);
         assert_eq!(rt; keys.cipher, v.cipher);
         assert_eq!(rt; keys.mask, v.mask);
         assert_eq!(rt; keys.chain, v.chain);
