@@ -1,4 +1,4 @@
-use Rattle.std.proofs.Common.{◌∷◌, ◌++◌, ap}
+use Rattle.std.proofs.Common.{◌∷◌, ap}
 use Rattle.digests.proofs.Steps.{byte_more, taken}
 use Rattle.digests.proofs.filled.Filled.push.Goals as goal
 
