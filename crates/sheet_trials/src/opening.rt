@@ -1,6 +1,6 @@
 // Opening of delivered sheets: seals by another program, the largest sheet, every refusal and what the buffer then holds, and damage.
 use crate::samples::{SHORTEST, refused};
-use crate::vectors::{ENDS, KEY, LABEL, MIRROR, SHAFT, SHEET};
+use crate::vectors::{ENDS, FOUR_ROUNDS, KEY, LABEL, MIRROR, SEALED, SHAFT, SHEET, TEN_ROUNDS};
 use delivery::message::seal;
 use delivery::sheets::open_sheet;
 use fault::kinds::{KeyFault, SessionFault, SheetFault};
@@ -15,7 +15,7 @@ use wire::parse::Delivery;
 
 #[test]
 fn opens(rt: HostRuntime) {
-    for d in [SHAFT, MIRROR] {
+    for d in SEALED {
         let mut out = [0xee; 90];
         assert_eq!(rt; open_sheet(d, &mut out), Ok(3));
         assert!(rt; &out[0..84] == SHEET.as_slice(), "other sheet");
@@ -251,7 +251,7 @@ const BROKEN: [(&'static [u8], u8, SheetFault, usize); 6] = [
 #[test]
 fn refused_sheets(rt: HostRuntime) -> Result<(), Fail> {
     for (i, (sheet, number, fault, place)) in BROKEN.into_iter().enumerate() {
-        for suite in [1, 4] {
+        for suite in SEALED.map(|d| d.suite) {
             refuses_sealed(
                 &rt,
                 rt.alloc(),
@@ -278,21 +278,8 @@ fn each_damaged(heap: Global, bytes: &[u8]) -> Result<Vec<Vec<u8>>, AllocError> 
     Ok(all)
 }
 
-// A delivery with these parts is refused as forged.
-fn forged<'a>(
-    rt: &impl Abort,
-    heap: Global,
-    header: &'a [u8],
-    ciphertext: &'a [u8],
-    tag: &'a [u8],
-    case: &impl Display,
-) -> Result<(), Fail> {
-    let d = Delivery {
-        header,
-        ciphertext,
-        tag,
-        ..SHAFT
-    };
+// A delivery of the sheet that is damaged is refused as forged.
+fn forged(rt: &impl Abort, heap: Global, d: Delivery<'_>, case: &impl Display) -> Result<(), Fail> {
     refuses(
         rt,
         heap,
@@ -305,38 +292,29 @@ fn forged<'a>(
     )
 }
 
-#[test]
-fn damage_is_refused(rt: HostRuntime) -> Result<(), Fail> {
-    let heap = rt.alloc();
-    for header in &each_damaged(heap, SHAFT.header)? {
-        forged(
-            &rt,
-            heap,
-            header,
-            SHAFT.ciphertext,
-            SHAFT.tag,
-            &"a byte of the header",
-        )?;
+// One bit of each byte that a gateway carries, under every suite but the mirror, which protects nothing.
+fn damage_shows(rt: &impl Abort, heap: Global, d: Delivery<'_>) -> Result<(), Fail> {
+    for header in &each_damaged(heap, d.header)? {
+        forged(rt, heap, Delivery { header, ..d }, &"a byte of the header")?;
     }
-    for ciphertext in &each_damaged(heap, SHAFT.ciphertext)? {
+    for ciphertext in &each_damaged(heap, d.ciphertext)? {
         forged(
-            &rt,
+            rt,
             heap,
-            SHAFT.header,
-            ciphertext,
-            SHAFT.tag,
+            Delivery { ciphertext, ..d },
             &"a byte of the ciphertext",
         )?;
     }
-    for tag in &each_damaged(heap, SHAFT.tag)? {
-        forged(
-            &rt,
-            heap,
-            SHAFT.header,
-            SHAFT.ciphertext,
-            tag,
-            &"a byte of the tag",
-        )?;
+    for tag in &each_damaged(heap, d.tag)? {
+        forged(rt, heap, Delivery { tag, ..d }, &"a byte of the tag")?;
+    }
+    Ok(())
+}
+
+#[test]
+fn damage_is_refused(rt: HostRuntime) -> Result<(), Fail> {
+    for d in [SHAFT, FOUR_ROUNDS, TEN_ROUNDS] {
+        damage_shows(&rt, rt.alloc(), d)?;
     }
     Ok(())
 }
