@@ -9,6 +9,7 @@ use Rattle.suite.specs.declared.Suite as suite
 use Rattle.suite.specs.declared.Permutation as permutation
 use Rattle.suite.specs.declared.ChainingHash as hash
 use Rattle.suite.specs.declared.HeaderDigest as digest
+use Rattle.poet.specs.Seal.{header_most, body_most}
 use Rattle.session.specs.declared.types.Heading.{Heading}
 use Rattle.session.specs.declared.rows.Way as way
 use Rattle.session.specs.declared.types.Session.{Session}
@@ -17,16 +18,16 @@ use Rattle.session.specs.Sessions.{HeadingAt, SessionAt, header_check, body_chec
 use Rattle.session.proofs.ByChecks.{header_by, BodyTaken, body_by, SealFinished, SealedBy, OpenJudged, OpenedBy}
 
 pub header_ok : {A B C D : Type 0} {u : suite.Ghosts A B C D} {p : permutation.Ghosts B} {h : hash.Ghosts C} {d : digest.Ghosts D} (R : Run) (P : List ℕ) (s s' : Heading A B C D u p h d) (r : Result (Unit {0}) (Placed SessionFault))
-    → length R.header + length P ≤ 65536 → RefusedBy session_faults (header_check (length R.header) (length P)) r → OnErr r (s' ≡ s) → OnOk r (HeadingAt (headed R P) s') → (r ≡ Ok tt) × HeadingAt (headed R P) s'
+    → length R.header + length P ≤ header_most → RefusedBy session_faults (header_check (length R.header) (length P)) r → OnErr r (s' ≡ s) → OnOk r (HeadingAt (headed R P) s') → (r ≡ Ok tt) × HeadingAt (headed R P) s'
 header_ok R P s s' r l f n t =
-    let e : ltb 65536 (length R.header + length P) ≡ false = le-ltb 65536 (length R.header + length P) l in
+    let e : ltb header_most (length R.header + length P) ≡ false = le-ltb header_most (length R.header + length P) l in
     rw e at (header_by (header_check (length R.header) (length P)) R P s s' r f n t)
 
 pub body_ok : {A W B C D : Type 0} {u : suite.Ghosts A B C D} {p : permutation.Ghosts B} {h : hash.Ghosts C} {d : digest.Ghosts D} {w : way.Ghosts W} (R : Run) (P o o' : List ℕ) (s s' : Session A W B C D u p h d w) (r : Result (ℕ × ℕ) (Placed SessionFault))
-    → length R.body + length P ≤ 1048576 → writes (held R + length P) ≤ length o → RefusedBy session_faults (body_check (length R.body) (held R) (length P) (length o)) r → OnErr r ((s' ≡ s) × (o' ≡ o)) → IfOk r (λ n. n ≡ given_of (held R + length P))
+    → length R.body + length P ≤ body_most → writes (held R + length P) ≤ length o → RefusedBy session_faults (body_check (length R.body) (held R) (length P) (length o)) r → OnErr r ((s' ≡ s) × (o' ≡ o)) → IfOk r (λ n. n ≡ given_of (held R + length P))
     → IfOk r (λ n. drop n.0 o' ≡ drop n.0 o) → IfOk r (λ n. SessionAt (bodied R P (take n.0 o')) s') → BodyTaken R P o o' s' r
 body_ok R P o o' s s' r l m f k a q t =
-    let e : ltb 1048576 (length R.body + length P) ≡ false = le-ltb 1048576 (length R.body + length P) l in
+    let e : ltb body_most (length R.body + length P) ≡ false = le-ltb body_most (length R.body + length P) l in
     let d : ltb (length o) (writes (held R + length P)) ≡ false = le-ltb (length o) (writes (held R + length P)) m in
     rw (e, d) at (body_by (body_check (length R.body) (held R) (length P) (length o)) R P o o' s s' r f k a q t)
 

@@ -8,7 +8,7 @@ use Rattle.fault.specs.declared.kinds.Layer.TheVariants.{Session as SessionLayer
 use Rattle.fault.specs.Refusals.{refusal, IsRefusal, RefusedBy, session_faults}
 use Rattle.poet.specs.Bytes.{Bytes, Block}
 use Rattle.poet.specs.Functions.{Functions, Lawful}
-use Rattle.poet.specs.Seal.{Limits, Seals}
+use Rattle.poet.specs.Seal.{body_most, Limits, Seals}
 use Rattle.poet.specs.Rows.{ends, cipher, tag, opened}
 use Rattle.poet.proofs.Computing.{computing_law}
 use Rattle.poet.proofs.Accepting.{opening_law, tag_law}
@@ -22,7 +22,7 @@ use Rattle.session.proofs.Endings.{last_bytes}
 use Rattle.session.proofs.Passing.{none_failed, only_none}
 use Rattle.session.proofs.Stretches.{out_length}
 
-pub limits : (R : Run) → Taken R → 1 ≤ length R.body → length R.body ≤ 1048576 → Limits R.header R.body
+pub limits : (R : Run) → Taken R → 1 ≤ length R.body → length R.body ≤ body_most → Limits R.header R.body
 limits R t some most = record { header_bytes = t.header_bytes; header_most = t.header_most; bytes = t.body_bytes; some = some; most = most }
 
 -- the bytes held back are those of the last block
@@ -69,7 +69,7 @@ open_refused f L R t oe lim T G s l' e' z ee =
     record { fault = ee; none = λ m p. let a = O.accepts.1 (m, p) in s (record { fill = a.fill; check = a.check }); zeros = z }
 
 -- an opening's finish, once the tag has passed its check: T is the tag given, and T' what the check answered
-module _ (f : Functions) (L : Lawful f) (R : Run) (t : Taken R) (total : ℕ) (te : total ≡ length R.body) (some : 1 ≤ total) (most : total ≤ 1048576) (T T' : List ℕ) (tb : Bytes T)
+module _ (f : Functions) (L : Lawful f) (R : Run) (t : Taken R) (total : ℕ) (te : total ≡ length R.body) (some : 1 ≤ total) (most : total ≤ body_most) (T T' : List ℕ) (tb : Bytes T)
     (ok : RefusedBy session_faults (tag_check T total) (Ok T')) (same : T' ≡ T) (oe : R.out ≡ (rows_of opening f R).out) where
   sixteen : eqb (length T) 16 ≡ true
   sixteen = only_none (eqb (length T) 16) _ (none_failed session_faults (tag_check T total) T' ok)

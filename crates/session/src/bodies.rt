@@ -1,19 +1,32 @@
-// The body call, of a sealing as of an opening.
-ghost use Rattle.std.specs.Prelude.{◌≡◌, ◌+◌, ◌≤◌, length, take, drop, IfOk, OnErr};
-ghost use Rattle.fault.specs.Refusals.{RefusedBy, session_faults};
+// A session whose body has started, one way or the other: its body call, and the finish of each way.
+ghost use Rattle.std.specs.Prelude.{◌≡◌, ◌+◌, ◌-◌, ◌≤◌, ◌↔◌, ℕ, List, ◌++◌, length, take, drop, replicate, IfErr, IfOk, IsOk, OnErr};
+ghost use Rattle.fault.specs.declared.kinds.SessionFault.{SessionFault};
+ghost use Rattle.fault.specs.Refusals.{IsRefusal, Refusal, RefusedBy, Refuses, session_faults};
+ghost use Rattle.poet.specs.Seal.{Seals};
+ghost use Rattle.session.specs.Calls.{forged};
+ghost use Rattle.session.specs.Directions.{opening, sealing};
 ghost use Rattle.session.specs.Promise.{AgreesWith, Blocks};
-ghost use Rattle.session.specs.Runs.{Run, bodied};
-ghost use Rattle.session.specs.Sessions.{SessionAt, body_check, given_of, held};
+ghost use Rattle.session.specs.Runs.{Run, bodied, ended};
+ghost use Rattle.session.specs.Sessions.{SessionAt, body_check, given_of, held, opening_check, rows_of, sealing_check};
+ghost use Rattle.session.specs.Steps.{Tested};
 
-use crate::checks::BODY_MOST;
-use crate::rows::Way;
-use crate::types::Session;
+use crate::blocks::same;
+use crate::checks::{BODY_MOST, tag_bytes};
+use crate::rows::{Open, Seal, Way};
+use crate::types::{Opening, Sealing, Session};
 use fault::kinds::{Placed, SessionFault};
+use poet::complete;
 use suite::Suite;
 
 impl<S: Suite, W: Way> Session<S, W> {
-    // Takes a stretch of the message, or of an opening's ciphertext, and writes to `out` every whole block that at least one more byte
-    // follows. Answers the bytes written and the bytes held: kept a pair, by a rule of the project.
+    /// Takes a stretch of the message, or of an opening's ciphertext, and writes to the front of
+    /// `out` every whole block that at least one more byte follows. Answers how many bytes it wrote,
+    /// and how many it holds back, 16 at most.
+    ///
+    /// Refuses bytes that would bring the body past 1,048,576 (5) and an `out` that is too short for
+    /// what it would write (6), at the number of bytes taken before; then it alters nothing.
+    //
+    // The pair has no names of its own: a caller who asks for one number only takes it by its place.
     pub fn body(
         &mut self,
         input: &[u8],
@@ -57,5 +70,121 @@ impl<S: Suite, W: Way> Session<S, W> {
             .run::<W>(self.lanes, &mut self.held, input, out, n);
         self.total += input.len();
         Ok((written, t - written))
+    }
+}
+
+impl<S: Suite> Sealing<S> {
+    /// Ends the sealing: the last bytes of the ciphertext go to `last`, with zeros behind them, and
+    /// the tag to `tag`. Answers how many bytes the last ones are, 1 to 16.
+    ///
+    /// Refuses a sealing that took no body (7), at 0; then both places hold zeros.
+    pub fn finish(
+        self,
+        last: &mut [u8; 16],
+        tag: &mut [u8; 16],
+    ) -> Result<usize, Placed<SessionFault>>
+        ensures few { IfOk result (λ n. n ≤ 16) }
+        ensures refused { (R : Run) → SessionAt R self
+            → RefusedBy session_faults (sealing_check R) result }
+        ensures cleared { OnErr result ((last.new ≡ replicate 16 0) × (tag.new ≡ replicate 16 0)) }
+        ensures seals { (R : Run) → SessionAt R self
+            → IfOk result (λ n. (n ≡ held R)
+            × Seals (S.Suite.under R.key) R.header R.body (R.out ++ take n last.new) tag.new) }
+        ensures zeros { (R : Run) → SessionAt R self
+            → IfOk result (λ n. drop n last.new ≡ replicate (16 - n) 0) }
+        ensures accepts { (R : Run) → SessionAt R self
+            → IsOk result ↔ ((C : List ℕ) × (T : List ℕ)
+            × Seals (S.Suite.under R.key) R.header R.body C T) }
+        ensures blocks { (R : Run) → SessionAt R self
+            → Blocks sealing (S.Suite.under R.key) (ended R result last.new) }
+        ensures two_runs { (R : Run) → SessionAt R self
+            → AgreesWith sealing (S.Suite.under R.key) (ended R result last.new) }
+    {
+        if self.total == 0 {
+            *last = [0; 16];
+            *tag = [0; 16];
+            return Err(Placed {
+                fault: SessionFault::Empty,
+                place: 0,
+            });
+        }
+        let mask = self.engine.mask(self.total);
+        let held = self.held.as_slice();
+        let block = complete(held, &self.engine.tau);
+        let (end, given) = self.engine.last_row::<Seal>(self.lanes, mask, block);
+        let z = self.engine.closing(end.taking, end.giving);
+        *last = complete(&given[..held.len()], &[0; 16]);
+        *tag = complete(&given[held.len()..], &z);
+        Ok(held.len())
+    }
+}
+
+impl<S: Suite> Opening<S> {
+    // The last row under a tag: the block that it gives, if the opening passes its tests. Both tests
+    // are made, and each to the end, so that the time tells nothing of where a forgery fails.
+    fn verdict(&self, tag: &[u8; 16]) -> Option<[u8; 16]>
+        ensures { (R : Run) → SessionAt R self.now
+            → Tested (S.Suite.under R.key) R.header R.body tag.now
+            (rows_of opening (S.Suite.under R.key) R).out result }
+    {
+        let mask = self.engine.mask(self.total);
+        let held = self.held.as_slice();
+        let block = complete(held, tag);
+        let (end, given) = self.engine.last_row::<Open>(self.lanes, mask, block);
+        let z = self.engine.closing(end.giving, end.taking);
+        let padded = same(&given, &complete(&given[..held.len()], &self.engine.tau));
+        let tagged = same(tag, &complete(&tag[..16 - held.len()], &z));
+        (padded & tagged).then_some(given)
+    }
+
+    /// Ends the opening: accepts what was handed out, or refuses it. The last bytes of the message
+    /// go to `last`, with zeros behind them. Answers how many bytes these are, 1 to 16.
+    ///
+    /// Refuses an opening that took no body (7), at 0, a tag that has not sixteen bytes (8) and one
+    /// that no message seals to (9), at the number of bytes taken; then `last` holds zeros, and
+    /// nothing that was handed out may be used.
+    pub fn finish(self, tag: &[u8], last: &mut [u8; 16]) -> Result<usize, Placed<SessionFault>>
+        ensures few { IfOk result (λ n. n ≤ 16) }
+        ensures refused { (R : Run) → SessionAt R self
+            → (e : Refusal SessionFault) → opening_check R tag.now ≡ Some e
+            → Refuses session_faults e result }
+        ensures forgery { (R : Run) → SessionAt R self
+            → opening_check R tag.now ≡ None
+            → IfErr result (IsRefusal session_faults (forged (length R.body))) }
+        ensures cleared { OnErr result (last.new ≡ replicate 16 0) }
+        ensures accepts { (R : Run) → SessionAt R self
+            → IsOk result ↔ ((M : List ℕ)
+            × Seals (S.Suite.under R.key) R.header M R.body tag.now) }
+        ensures message { (R : Run) → SessionAt R self
+            → IfOk result (λ n. (n ≡ held R)
+            × Seals (S.Suite.under R.key) R.header (R.out ++ take n last.new) R.body tag.now) }
+        ensures only { (R : Run) → SessionAt R self
+            → IfOk result (λ n. (M : List ℕ)
+            → Seals (S.Suite.under R.key) R.header M R.body tag.now
+            → M ≡ R.out ++ take n last.new) }
+        ensures zeros { (R : Run) → SessionAt R self
+            → IfOk result (λ n. drop n last.new ≡ replicate (16 - n) 0) }
+        ensures blocks { (R : Run) → SessionAt R self
+            → Blocks opening (S.Suite.under R.key) (ended R result last.new) }
+        ensures two_runs { (R : Run) → SessionAt R self
+            → AgreesWith opening (S.Suite.under R.key) (ended R result last.new) }
+    {
+        *last = [0; 16];
+        if self.total == 0 {
+            return Err(Placed {
+                fault: SessionFault::Empty,
+                place: 0,
+            });
+        }
+        let tag = tag_bytes(tag, self.total)?;
+        let Some(given) = self.verdict(&tag) else {
+            return Err(Placed {
+                fault: SessionFault::Forged,
+                place: self.total,
+            });
+        };
+        let len = self.held.as_slice().len();
+        *last = complete(&given[..len], &[0; 16]);
+        Ok(len)
     }
 }

@@ -5,8 +5,10 @@ ghost use Rattle.session.specs.Calls.{body_checks, tag_check};
 
 use fault::kinds::{Placed, SessionFault};
 
+// The most bytes that a header has.
 pub(crate) const HEADER_MOST: usize = 65536;
 
+// The most bytes that a body has.
 pub(crate) const BODY_MOST: usize = 1048576;
 
 // Whether header, body and room pass; `room` is the number of bytes that the caller's buffer has.

@@ -1,4 +1,4 @@
-// The calls of a heading, and the start of a body.
+// A heading: a session that takes its header.
 ghost use Rattle.std.specs.Prelude.{◌≡◌, ℕ, List, length, OnErr, OnOk};
 ghost use Rattle.fault.specs.Refusals.{RefusedBy, session_faults};
 ghost use Rattle.session.specs.Runs.{Run, fresh, headed};
@@ -16,7 +16,7 @@ use std::marker::PhantomData;
 use suite::{HeaderDigest, Keyed, Suite};
 
 impl<S: Suite> Heading<S> {
-    // A new session under the key that is in the place.
+    /// A new session under the key that is in `place`, or under sixteen zeros if none was put in.
     pub fn new(place: &KeyPlace) -> Heading<S>
         ensures { HeadingAt (fresh place.now.bytes) result }
     {
@@ -39,7 +39,8 @@ impl<S: Suite> Heading<S> {
         }
     }
 
-    // Adds bytes to the header.
+    /// Adds bytes to the header. Refuses bytes that would bring it past 65,536 (4), at the number of
+    /// bytes taken before; then the heading stays as it was.
     pub fn header(&mut self, p: &[u8]) -> Result<(), Placed<SessionFault>>
         ensures refused { (R : Run) → HeadingAt R self.old
             → RefusedBy session_faults (header_check (length R.header) (length p.now)) result }
@@ -58,14 +59,14 @@ impl<S: Suite> Heading<S> {
         Ok(())
     }
 
-    // Starts the body of a sealing.
+    /// Starts the body of a sealing; the header ends here.
     pub fn seal(self) -> Sealing<S>
         ensures { (R : Run) → HeadingAt R self → SessionAt R result }
     {
         self.start()
     }
 
-    // Starts the body of an opening.
+    /// Starts the body of an opening; the header ends here.
     pub fn open(self) -> Opening<S>
         ensures { (R : Run) → HeadingAt R self → SessionAt R result }
     {

@@ -5,20 +5,22 @@ ghost use Rattle.session.specs.Calls.{key_check};
 
 use fault::kinds::{KeyFault, Placed};
 
-// Sixteen bytes: zeros until a key is put in.
+/// A place for a key of sixteen bytes: zeros until a key is put in.
 #[derive(Clone, Copy)]
 pub struct KeyPlace {
     pub(crate) bytes: [u8; 16],
 }
 
 impl KeyPlace {
+    /// An empty place, which holds zeros.
     pub fn new() -> KeyPlace
         ensures { result.bytes ≡ replicate 16 0 }
     {
         KeyPlace { bytes: [0; 16] }
     }
 
-    // Puts a key in, if it has sixteen bytes.
+    /// Puts a key in. Refuses one that has not sixteen bytes (3), at its length; then the place stays
+    /// as it was.
     pub fn fill(&mut self, key: &[u8]) -> Result<(), Placed<KeyFault>>
         ensures refused { RefusedBy key_faults (key_check key.now) result }
         ensures unaltered { OnErr result (self.new.bytes ≡ self.old.bytes) }

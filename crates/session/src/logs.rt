@@ -1,4 +1,4 @@
-// What a session took and handed out, and what its calls answered, kept while it is played.
+// What is kept of a session while it is played.
 ghost use Rattle.std.specs.Prelude.{◌≡◌, ◌≤◌, [], length, IfOk, OnOk};
 ghost use Rattle.session.specs.Logs.{BodyKept, FinishKept, HeaderKept};
 
@@ -6,15 +6,16 @@ use crate::script::Answer;
 use fault::kinds::{Placed, SessionFault};
 use std::alloc::{AllocError, Global};
 
+/// What a session took and handed out, and what its calls answered.
 #[derive(Drop)]
 pub struct Played {
-    // the header bytes taken
+    /// The header bytes taken.
     pub header: Vec<u8>,
-    // the body bytes taken
+    /// The body bytes taken.
     pub body: Vec<u8>,
-    // the bytes handed out
+    /// The bytes handed out.
     pub out: Vec<u8>,
-    // what each call answered, in order
+    /// What each call answered, in order.
     pub answers: Vec<Answer>,
 }
 

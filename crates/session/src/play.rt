@@ -10,7 +10,8 @@ use crate::types::{Heading, Opening, Sealing};
 use std::alloc::{AllocError, Global};
 use suite::Suite;
 
-// Plays the header calls, and then the course. Answers what was taken and handed out, what each call answered, and what the finish wrote.
+/// Plays the header calls under the key in `place`, and then the course. Answers what was taken and
+/// handed out, what each call answered, and what the finish wrote; or that memory ran out.
 pub fn play<S: Suite>(
     heap: Global,
     place: &KeyPlace,
@@ -29,8 +30,8 @@ pub fn play<S: Suite>(
     }
 }
 
-// The body calls and the end of a sealing. Kept: its finish and an opening's differ in what they take, in what they write, and in what
-// is promised of them.
+// The body calls and the end of a sealing, apart from those of an opening: their finishes differ in
+// what they take, in what they write, and in what is promised of them.
 fn play_sealing<S: Suite>(
     heap: Global,
     mut sealing: Sealing<S>,

@@ -1,14 +1,14 @@
 // A written session: any legal list of calls from new on, and what came of it.
 use fault::kinds::{Placed, SessionFault};
 
-// One stretch of bytes for a header call, or for a body call with the room that it offers.
+/// The bytes that a header call brings, or a body call, with the room in bytes that this offers.
 #[derive(Clone, Copy)]
 pub struct Stretch<'a> {
     pub bytes: &'a [u8],
     pub room: usize,
 }
 
-// What one call answered.
+/// What one call answered.
 #[derive(Debug, PartialEq, Eq, Clone, Copy)]
 pub enum Answer {
     Header(Result<(), Placed<SessionFault>>),
@@ -16,24 +16,25 @@ pub enum Answer {
     Finish(Result<usize, Placed<SessionFault>>),
 }
 
-// What follows the header calls of a written session: nothing, or a start, body calls, and perhaps a finish.
+/// What follows the header calls of a written session: nothing, or a start, body calls, and perhaps
+/// a finish.
 #[derive(Clone, Copy)]
 pub enum Course<'a> {
-    // no start
+    /// No start.
     Heading,
-    // a sealing, finished or not
+    /// A sealing, finished or not.
     Seal {
         bodies: &'a [Stretch<'a>],
         finish: bool,
     },
-    // an opening, and the tag of its finish if it has one
+    /// An opening, and the tag of its finish if it has one.
     Open {
         bodies: &'a [Stretch<'a>],
         tag: Option<&'a [u8]>,
     },
 }
 
-// What a finish wrote into its places.
+/// What a finish wrote into its places.
 #[derive(Debug, PartialEq, Eq, Clone, Copy)]
 pub enum End {
     Unfinished,

@@ -1,5 +1,6 @@
 // One session from beginning to end over whole buffers, whose lengths are checked before.
 ghost use Rattle.std.specs.Prelude.{◌≤◌, length};
+ghost use Rattle.poet.specs.Seal.{body_most, header_most};
 ghost use Rattle.session.specs.Straight.{BegunBy, OpenRun, SealRun};
 
 use crate::keys::KeyPlace;
@@ -15,8 +16,8 @@ fn begun<S: Suite, W: Way>(
     body: &[u8],
     out: &mut [u8],
 ) -> Result<(Session<S, W>, usize), Placed<SessionFault>>
-    requires header { length header.now ≤ 65536 }
-    requires most { length body.now ≤ 1048576 }
+    requires header { length header.now ≤ header_most }
+    requires most { length body.now ≤ body_most }
     requires room { length body.now ≤ length out.old }
     ensures { BegunBy place.now.bytes header.now body.now out.old out.new result }
 {
@@ -35,9 +36,9 @@ pub(crate) fn seal_straight<S: Suite>(
     out: &mut [u8],
     tag: &mut [u8; 16],
 ) -> Result<(), Placed<SessionFault>>
-    requires header { length header.now ≤ 65536 }
+    requires header { length header.now ≤ header_most }
     requires some { 1 ≤ length message.now }
-    requires most { length message.now ≤ 1048576 }
+    requires most { length message.now ≤ body_most }
     requires room { length message.now ≤ length out.old }
     ensures { SealRun (S.Suite.under place.now.bytes) header.now message.now out.old out.new tag.new result }
 {
@@ -48,7 +49,8 @@ pub(crate) fn seal_straight<S: Suite>(
     Ok(())
 }
 
-// Opens: the message goes to the front of `out`. Kept: the two finishes differ in what they take and write.
+// Opens: the message goes to the front of `out`. Apart from sealing, as the two finishes differ in
+// what they take and write.
 pub(crate) fn open_straight<S: Suite>(
     place: &KeyPlace,
     header: &[u8],
@@ -56,9 +58,9 @@ pub(crate) fn open_straight<S: Suite>(
     tag: &[u8; 16],
     out: &mut [u8],
 ) -> Result<(), Placed<SessionFault>>
-    requires header { length header.now ≤ 65536 }
+    requires header { length header.now ≤ header_most }
     requires some { 1 ≤ length ciphertext.now }
-    requires most { length ciphertext.now ≤ 1048576 }
+    requires most { length ciphertext.now ≤ body_most }
     requires room { length ciphertext.now ≤ length out.old }
     ensures { OpenRun (S.Suite.under place.now.bytes) header.now ciphertext.now tag.now out.old out.new result }
 {

@@ -12,8 +12,15 @@ use crate::straight::{open_straight, seal_straight};
 use fault::kinds::{Placed, SessionFault};
 use suite::Suite;
 
-// Seals `message` under `key` and `header`: the ciphertext goes to the front of `out`, and the tag to `tag`. Answers the bytes written to `out`.
-// Kept with a parameter for each buffer: every one has a refusal of its own, and a struct of them would be made for the call alone.
+/// Seals `message`, 1 to 1,048,576 bytes, under a `key` of sixteen bytes and a `header` of 65,536 at
+/// most: the ciphertext, as long as the message, goes to the front of `out`, and the tag to `tag`.
+/// Answers how many bytes it wrote to `out`.
+///
+/// Refuses a key (3), header (4), body (5), room (6) or empty body (7) that fails, in this order, and
+/// then alters nothing. The place is 0, and a key's length for 3.
+//
+// A parameter for each buffer: every one has a refusal of its own, and a struct of them would be made
+// for the call alone.
 pub fn seal<S: Suite>(
     key: &[u8],
     header: &[u8],
@@ -39,7 +46,11 @@ pub fn seal<S: Suite>(
     Ok(message.len())
 }
 
-// Opens `ciphertext` under `key` and `header` if `tag` is its tag: the message goes to the front of `out`. Answers the bytes written.
+/// Opens `ciphertext` under `key` and `header` if some message seals to it and to `tag`: that message
+/// goes to the front of `out`. Answers how many bytes it wrote.
+///
+/// Refuses as `seal` does, and then a tag that has not sixteen bytes (8), at 0, altering nothing; and
+/// a forgery (9), at the ciphertext's length: zeros stand then where the message would have stood.
 pub fn open<S: Suite>(
     key: &[u8],
     header: &[u8],

@@ -2,7 +2,7 @@
 // start, or asks a finished session for a second tag (docs/REFUSALS.md).
 use fault::kinds::{Placed, SessionFault};
 use session::keys::KeyPlace;
-use session::types::Heading;
+use session::Heading;
 use suite::Suite;
 
 pub(crate) fn seal_once<S: Suite>(

@@ -1,12 +1,13 @@
 use Rattle.std.proofs.Common.{◌≡◌, ◌+◌, false, ltb, length, sym, refl, ap, ◌∙◌, append_assoc, arith, length-append, rules, le-ltb}
 use Rattle.poet.proofs.Xors.{bytes_append, bytes_from}
+use Rattle.poet.specs.Seal.{header_most}
 use Rattle.session.proofs.types.Heading.header.Goals as goal
 
 pub returns-clause-refused : goal.returns-clause-refused
 returns-clause-refused g c =
     λ R a.
     let k = a.count_is in
-    let e : ltb 65536 (length R.header + length c.args.p.now) ≡ false = le-ltb 65536 (length R.header + length c.args.p.now) (omega arith) in
+    let e : ltb header_most (length R.header + length c.args.p.now) ≡ false = le-ltb header_most (length R.header + length c.args.p.now) (omega arith) in
     rw e
 
 pub returns-clause-taken : goal.returns-clause-taken

@@ -1,6 +1,7 @@
 use Rattle.std.proofs.Common.{◌≡◌, ℕ, ◌+◌, ◌*◌, ◌/◌, true, false, ltb, ◌++◌, length, take, drop, refl, ap, ap₂, arith, length-append, length-drop, length-take, rules, le-ltb, lt-ltb}
 use Rattle.poet.specs.Rows.{whole, start}
 use Rattle.poet.proofs.Xors.{bytes_append, bytes_from}
+use Rattle.poet.specs.Seal.{body_most}
 use Rattle.session.specs.Directions.{picks, turns}
 use Rattle.session.specs.Runs.{Run, bodied}
 use Rattle.session.specs.Sessions.{Taken, SessionAt, held, writes}
@@ -17,7 +18,7 @@ returns-then-out-written-clause-refused g c =
     let m = ap length c.as_slice.ensures.bytes in
     let u = c.saturating_sub-n.ensures in
     let o = out_length f (g.met.S.Suite.lawful R.key a.taken.key_block) g.W.Way.way R a.taken.header_bytes a.taken.body_bytes a.out_is in
-    let e : ltb 1048576 (length R.body + length P) ≡ false = le-ltb 1048576 (length R.body + length P) (omega arith) in
+    let e : ltb body_most (length R.body + length P) ≡ false = le-ltb body_most (length R.body + length P) (omega arith) in
     let d : ltb (length c.args.out.now) (writes (held R + length P)) ≡ true = lt-ltb (length c.args.out.now) (writes (held R + length P)) (omega arith) in
     rw (e, d) (record { is = cc; number = refl; layer = refl })
 
@@ -52,7 +53,7 @@ returns g c =
           λ R a.
           let k = a.total_is in
           let w = o R a in
-          let e : ltb 1048576 (length R.body + length P) ≡ false = le-ltb 1048576 (length R.body + length P) (omega arith) in
+          let e : ltb body_most (length R.body + length P) ≡ false = le-ltb body_most (length R.body + length P) (omega arith) in
           let d : ltb (length c.args.out.now) (writes (held R + length P)) ≡ false = le-ltb (length c.args.out.now) (writes (held R + length P)) (omega arith) in
           rw (e, d);
       unaltered = tt;
