@@ -1,5 +1,5 @@
 -- From the opening of a message and the test of a sheet to the opening of a sheet.
-use Rattle.std.proofs.Common.{◌≡◌, ℕ, ◌≤◌, ◌↔◌, List, ◌++◌, length, take, drop, replicate, IfOk, IfErr, IsErrAnd, Some, None, Ok, Err, Option, Result, sym, refl, ap, ◌∙◌, subst, inl, inr, arith, ltb-false, eqb-true}
+use Rattle.std.proofs.Common.{◌≡◌, ℕ, List, ◌++◌, length, take, drop, replicate, IsErrAnd, Some, None, Ok, Err, Option, Result, sym, refl, ap, ◌∙◌, subst, inl, inr, arith}
 use Rattle.std.specs.Option.{IfNone, IfSome}
 use Rattle.std.proofs.lemmas.List.{drop_at, length-replicate}
 use Rattle.fault.specs.declared.kinds.SessionFault.{SessionFault}
@@ -10,14 +10,14 @@ use Rattle.fault.specs.Refusals.{Refusal, Refuses, HandedOn, session_faults, she
 use Rattle.fault.proofs.Refusing.{handed_on as handed}
 use Rattle.poet.specs.Functions.{Functions}
 use Rattle.poet.specs.Seal.{Seals}
-use Rattle.session.specs.Calls.{tag_check, forged, open_checks, OpenCall}
+use Rattle.session.specs.Calls.{forged, open_checks, OpenCall}
 use Rattle.session.proofs.Bytewise.{zeroed}
 use Rattle.session.proofs.Passing.{fits}
 use Rattle.sheet.specs.Entries.{Item, sheet_of}
 use Rattle.sheet.specs.Calls.{Tested}
 use Rattle.sheet.proofs.Decoding.{unique}
 use Rattle.delivery.specs.Told.{not_listed}
-use Rattle.delivery.specs.Sheets.{SheetSeals, SheetOpened, SheetRefused, SheetCall, SheetUnder, lifted}
+use Rattle.delivery.specs.Sheets.{SheetSeals, SheetOpened, SheetCall, SheetUnder, lifted}
 
 module _ (under : List ℕ → Functions) (key H C T o m : List ℕ) where
   -- a refusal of the opening, that `?` hands on

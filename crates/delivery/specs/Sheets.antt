@@ -15,7 +15,8 @@ use Rattle.suites.specs.Listed.{listed}
 use Rattle.delivery.specs.Told.{suite_of, not_listed}
 use Rattle.wire.specs.Wire.{Parts}
 
--- Under the header H, a list of one or more good entries is written and sealed to the ciphertext C and the tag T.
+-- Under the header H, a list of one or more good entries is written and sealed to the ciphertext C
+-- and the tag T.
 pub record SheetSeals (f : Functions) (H : List ℕ) (es : List Item) (C T : List ℕ) : Type 0 where
   pub some : 0 < length es
   pub good : AllGood es
@@ -25,20 +26,24 @@ pub record SheetSeals (f : Functions) (H : List ℕ) (es : List Item) (C T : Lis
 abbrev pub lifted : Refusal SessionFault → Refusal SheetFault
 lifted e = inside Session e
 
--- Accepted: the sheet of the list es stands in the first bytes of the buffer o', and the rest is as it was in o. Only es seals so.
+-- Accepted: the sheet of the list es stands in the first bytes of the buffer o', and the rest is as
+-- it was in o. Only es seals so.
 pub record SheetOpened (f : Functions) (H C T o o' : List ℕ) (es : List Item) : Type 0 where
   pub list : SheetSeals f H es C T
   pub only : (fs : List Item) → SheetSeals f H fs C T → fs ≡ es
   pub front : take (length C) o' ≡ sheet_of es
   pub rest : drop (length C) o' ≡ drop (length C) o
 
--- Refused where no check fails: no message seals so, or what was sealed is broken as a sheet. Zeros stand in the buffer.
+-- Refused where no check fails: no message seals so, or what was sealed is broken as a sheet. Zeros
+-- stand in the buffer.
 pub record SheetRefused (f : Functions) (H C T o o' : List ℕ) (e : Placed SheetFault) : Type 0 where
-  pub why : (IsRefusal sheet_faults (lifted (forged (length C))) e × ((M : List ℕ) → Seals f H M C T → ⊥))
+  pub why : (IsRefusal sheet_faults (lifted (forged (length C))) e
+      × ((M : List ℕ) → Seals f H M C T → ⊥))
       ⊎ ((M : List ℕ) × Seals f H M C T × Broken M e)
   pub zeros : o' ≡ replicate (length C) 0 ++ drop (length C) o
 
--- An opening of a sheet that answers r, under the functions that `under` gives for a key; the buffer o became o'.
+-- An opening of a sheet that answers r, under the functions that `under` gives for a key; the
+-- buffer o became o'.
 pub record SheetCall (under : List ℕ → Functions) (key H C T o o' : List ℕ)
     (r : Result ℕ (Placed SheetFault)) : Type 0 where
   -- it refuses as the first check that fails, and alters nothing then
@@ -48,7 +53,8 @@ pub record SheetCall (under : List ℕ → Functions) (key H C T o o' : List ℕ
   pub accepts : length key ≡ 16 → length C ≤ length o
       → IsOk r ↔ ((es : List Item) × SheetSeals (under key) H es C T)
   -- then it answers how many entries that list has
-  pub entries : IfOk r (λ n. (es : List Item) × SheetOpened (under key) H C T o o' es × (n ≡ length es))
+  pub entries : IfOk r (λ n. (es : List Item) × SheetOpened (under key) H C T o o' es
+      × (n ≡ length es))
   pub broken : open_checks key H C T o ≡ None → IfErr r (SheetRefused (under key) H C T o o')
   pub rest : drop (length C) o' ≡ drop (length C) o
 
@@ -58,7 +64,8 @@ ToldSuite n (Ok s) = listed n ≡ Ok s
 ToldSuite n (Err e) = (suite_of n ≡ None) × IsRefusal sheet_faults (lifted (not_listed n)) e
 
 -- opening under the suite with the number n
-abbrev pub SheetUnder : Option (List ℕ → Functions) → (n : ℕ) (key H C T o o' : List ℕ) → Result ℕ (Placed SheetFault) → Type 0
+abbrev pub SheetUnder : Option (List ℕ → Functions) → (n : ℕ) (key H C T o o' : List ℕ)
+    → Result ℕ (Placed SheetFault) → Type 0
 SheetUnder None n key H C T o o' r = Refuses sheet_faults (lifted (not_listed n)) r × (o' ≡ o)
 SheetUnder (Some under) n key H C T o o' r = SheetCall under key H C T o o' r
 

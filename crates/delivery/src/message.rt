@@ -1,5 +1,5 @@
-// Sealing and opening of whole buffers under a suite that is told by its number. A number that is not listed is refused before every
-// other check.
+// Sealing and opening of whole buffers under a suite that is told by its number. A number that is
+// not listed is refused before every other check.
 ghost use Rattle.std.specs.Prelude.{◌≡◌, IfNone, IfSome};
 ghost use Rattle.fault.specs.Refusals.{Refuses, session_faults};
 ghost use Rattle.session.specs.Calls.{OpenCall, SealCall};
@@ -10,7 +10,8 @@ use suite::Suite;
 use suites::at_listed;
 use suites::listed::Listed;
 
-// Kept with a parameter for each buffer: every one has a refusal of its own, and a struct of them would be made for the call alone.
+/// Seals as `session::seal` does, under the suite with the number `suite`. Refuses a number that is
+/// not listed (2) before all else, at that number, and alters nothing then.
 pub fn seal(
     suite: u8,
     key: &[u8],
@@ -29,6 +30,8 @@ pub fn seal(
     at_listed!(listed, sealed(key, header, message, out, tag))
 }
 
+/// Opens as `session::open` does, under the suite with the number `suite`. Refuses a number that is
+/// not listed (2) before all else, at that number, and alters nothing then.
 pub fn open(
     suite: u8,
     key: &[u8],
@@ -46,7 +49,8 @@ pub fn open(
     at_listed!(listed, opened(key, header, ciphertext, tag, out))
 }
 
-// The same under a suite that is a type, with all that its call says as one fact for the calls above.
+// The same under a suite that is a type, with all that its call says as one fact for the calls
+// above.
 fn sealed<S: Suite>(
     key: &[u8],
     header: &[u8],

@@ -1,4 +1,5 @@
-// Opening of a delivered sheet: the message is opened under a suite, and every entry of it is tested.
+// Opening of a delivered sheet: the message is opened under a suite, and every entry of it is
+// tested.
 ghost use Rattle.std.specs.Prelude.{◌≡◌, ◌≤◌, ◌↔◌, ℕ, List, length, drop, IfErr, IfNone, IfOk, IfSome, IsOk};
 ghost use Rattle.fault.specs.declared.kinds.SessionFault.{SessionFault};
 ghost use Rattle.fault.specs.Refusals.{Refusal, Refuses, sheet_faults};
@@ -15,7 +16,7 @@ use suites::at_listed;
 use suites::listed::Listed;
 use wire::parse::Delivery;
 
-// The suite with a number, or the refusal of a number that is not listed.
+/// The suite with a number. Refuses one that is not listed (2), at that number.
 pub fn told(number: u8) -> Result<Listed, Placed<SheetFault>>
     ensures { ToldSuite number result }
 {
@@ -28,7 +29,9 @@ pub fn told(number: u8) -> Result<Listed, Placed<SheetFault>>
     }
 }
 
-// Opens a sheet into the front of `out`, and answers how many entries it has.
+/// Opens a delivered sheet into the front of `out`, and answers how many entries it has. Refuses a
+/// suite that is not listed (2) before all else, at its number, and alters nothing then; else it
+/// does what `open_sheet_as` does.
 pub fn open_sheet(d: Delivery<'_>, out: &mut [u8]) -> Result<usize, Placed<SheetFault>>
     ensures unlisted { let p = parts_of d.entry in IfNone (suite_of p.suite)
         (Refuses sheet_faults (lifted (not_listed p.suite)) result × (out.new ≡ out.old)) }
@@ -39,7 +42,12 @@ pub fn open_sheet(d: Delivery<'_>, out: &mut [u8]) -> Result<usize, Placed<Sheet
     at_listed!(listed, opened(d.key, d.header, d.ciphertext, d.tag, out))
 }
 
-// The same under any suite, from the parts of a delivery.
+/// Opens a sheet under any suite, from the parts of a delivery: if some list of one or more
+/// entries, written and sealed, gives `ciphertext` and `tag`, its sheet goes to the front of `out`.
+/// Answers how many entries it has.
+///
+/// Refuses as `session::open` does (3 to 9), and then what was sealed and is no sheet, as the test
+/// of a sheet does (10 to 13); where a sheet would have stood, zeros stand then.
 pub fn open_sheet_as<S: Suite>(
     key: &[u8],
     header: &[u8],

@@ -1,4 +1,5 @@
--- What it means that a call refuses: which fault it gives, with which number, of which layer and at which place.
+-- What it means that a call refuses: which fault it gives, with which number, of which layer and at
+-- which place.
 use Rattle.std.specs.Prelude.{◌≡◌, ℕ, Some, None, Ok, Err, IsOk, Option, Result}
 use Rattle.fault.specs.declared.kinds.Layer.{Layer}
 use Rattle.fault.specs.declared.kinds.Placed.{Placed}
@@ -41,7 +42,8 @@ refusal f n l p = record { fault = f; number = n; layer = l; place = p }
 abbrev pub placed : {F : Type 0} → Refusal F → Placed F
 placed e = record { fault = e.fault; place = e.place }
 
--- The answer p is that refusal: it has the fault and the place, and by the table the fault has the number and the layer.
+-- The answer p is that refusal: it has the fault and the place, and by the table the fault has the
+-- number and the layer.
 pub record IsRefusal {F : Type 0} (t : Table F) (e : Refusal F) (p : Placed F) : Type 0 where
   pub is : p ≡ placed e
   pub number : t.number p.fault ≡ e.number
@@ -68,5 +70,7 @@ abbrev pub inside : {E F : Type 0} → (c : E → F) → Refusal E → Refusal F
 inside c e = refusal (c e.fault) e.number e.layer e.place
 
 -- The fault p of a lower layer became q, inside the case c: number, layer and place are the same.
-abbrev pub HandedOn : {E F : Type 0} → Table E → Table F → (c : E → F) → (p : Placed E) → (q : Placed F) → Type 0
-HandedOn s t c p q = (q.fault ≡ c p.fault) × (q.place ≡ p.place) × (t.number q.fault ≡ s.number p.fault) × (t.layer q.fault ≡ s.layer p.fault)
+abbrev pub HandedOn : {E F : Type 0} → Table E → Table F → (c : E → F) → (p : Placed E)
+    → (q : Placed F) → Type 0
+HandedOn s t c p q = (q.fault ≡ c p.fault) × (q.place ≡ p.place)
+    × (t.number q.fault ≡ s.number p.fault) × (t.layer q.fault ≡ s.layer p.fault)

@@ -1,4 +1,4 @@
-// Why a call that keeps what it found on the heap gives nothing: it was refused, or memory was wanting.
+// Calls that keep what they found on the heap.
 ghost use Rattle.std.specs.Prelude.{◌≡◌};
 ghost use Rattle.fault.specs.declared.halt.Halt.TheVariants.{Memory, Refused};
 ghost use Rattle.fault.specs.declared.kinds.ConsoleFault.TheVariants.{Sheet};
@@ -6,9 +6,12 @@ ghost use Rattle.fault.specs.declared.kinds.ConsoleFault.TheVariants.{Sheet};
 use crate::kinds::{ConsoleFault, Placed, SheetFault};
 use std::alloc::AllocError;
 
+/// Why such a call gives nothing.
 #[derive(Drop)]
 pub enum Halt<F> {
+    /// It was refused.
     Refused(Placed<F>),
+    /// Memory ran out.
     Memory(AllocError),
 }
 

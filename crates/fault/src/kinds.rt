@@ -1,10 +1,12 @@
-// The faults of the layers, and where each was found. A layer's enum has a case that carries the fault of the layer below, unaltered.
+// The faults of the layers, and where each was found. A layer's enum has a case that carries the
+// fault of the layer below, unaltered.
 ghost use Rattle.std.specs.Prelude.{◌≡◌};
 ghost use Rattle.fault.specs.declared.kinds.ConsoleFault.TheVariants.{Sheet};
 ghost use Rattle.fault.specs.declared.kinds.SessionFault.TheVariants.{Key};
 ghost use Rattle.fault.specs.declared.kinds.SheetFault.TheVariants.{Session};
 ghost use Rattle.fault.specs.Refusals.{HandedOn, console_faults, key_faults, session_faults, sheet_faults};
 
+/// The layer that found a fault.
 #[derive(Debug, PartialEq, Eq, Clone, Copy)]
 pub enum Layer {
     Key,
@@ -13,65 +15,69 @@ pub enum Layer {
     Console,
 }
 
+/// What is wrong with a suite's number or a key.
 #[derive(Debug, PartialEq, Eq, Clone, Copy)]
 pub enum KeyFault {
-    // the suite is not listed
+    /// The suite is not listed.
     Suite,
-    // the key has not 16 bytes
+    /// The key has not 16 bytes.
     Length,
 }
 
+/// What is wrong with a sealing or an opening.
 #[derive(Debug, PartialEq, Eq, Clone, Copy)]
 pub enum SessionFault {
-    // a fault of the key
+    /// A fault of the key.
     Key(KeyFault),
-    // the header would pass 65,536 bytes
+    /// The header would pass 65,536 bytes.
     Header,
-    // the body would pass 1,048,576 bytes
+    /// The body would pass 1,048,576 bytes.
     Body,
-    // the room is below what the call would write
+    /// The caller's buffer is shorter than what the call would write.
     Room,
-    // there is no body
+    /// There is no body.
     Empty,
-    // the tag has not 16 bytes
+    /// The tag has not 16 bytes.
     Tag,
-    // the tests of an opening fail
+    /// No message seals so.
     Forged,
 }
 
+/// What is wrong with a sheet, or with an entry that is written.
 #[derive(Debug, PartialEq, Eq, Clone, Copy)]
 pub enum SheetFault {
-    // a fault of the session, or below
+    /// A fault of the session, or below.
     Session(SessionFault),
-    // the buffer has less room than an entry or a line needs
+    /// The buffer has less room than an entry or a line needs.
     Room,
-    // an entry is cut short
+    /// An entry is cut short.
     Cut,
-    // a bit that may not stand stands in an entry's map
+    /// A bit is set in an entry's map that may not be.
     UnknownBit,
-    // a bit that must stand is missing
+    /// A bit that must be set is missing.
     Missing,
-    // a value is outside its form
+    /// A value is outside its form.
     Value,
 }
 
+/// What is wrong with a delivery.
 #[derive(Debug, PartialEq, Eq, Clone, Copy)]
 pub enum ConsoleFault {
-    // a fault of the sheet, or below
+    /// A fault of the sheet, or below.
     Sheet(SheetFault),
-    // the input is cut short, too long, or over its limits
+    /// The input is cut short, too long, or over its limits.
     Input,
 }
 
-// A fault and its place; docs/REFUSALS.md says what each fault counts as its place.
+/// A fault and its place: which, docs/REFUSALS.md says for each fault.
 #[derive(Debug, PartialEq, Eq, Clone, Copy)]
 pub struct Placed<F> {
     pub fault: F,
     pub place: usize,
 }
 
-// A lower layer's fault is handed on with its number, layer and place. An impl for each pair of layers: one over all of them would overlap
-// with std's `From<T> for T`.
+// A lower layer's fault is handed on with its number, layer and place. An impl for each pair of
+// layers: one over all of them would overlap with std's `From<T> for T`.
 impl From<Placed<KeyFault>> for Placed<SessionFault> {
     ghost from_gives = { HandedOn key_faults session_faults Key };
 

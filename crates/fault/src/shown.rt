@@ -7,6 +7,7 @@ use crate::kinds::{ConsoleFault, KeyFault, Layer, Placed, SessionFault, SheetFau
 use std::fmt;
 
 impl Layer {
+    /// Its name in a line of text.
     pub fn name(&self) -> &'static str
         ensures { result.now ≡ layer_name self.now }
     {
@@ -28,15 +29,17 @@ impl fmt::Display for Layer {
     }
 }
 
-// A fault of any layer has a number, and the layer that found it.
+/// A fault of any layer has a number, 1 to 13, and the layer that found it.
 pub trait Fault {
     ghost number: { Self → ℕ };
 
     ghost layer: { Self → Layer };
 
+    /// Its number.
     fn number(&self) -> u8
         ensures { result ≡ number self.now };
 
+    /// The layer that found it.
     fn layer(&self) -> Layer
         ensures { result ≡ layer self.now };
 }

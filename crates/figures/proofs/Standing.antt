@@ -2,7 +2,7 @@
 use Rattle.std.proofs.Common.{◌≡◌, ℕ, ◌+◌, T, leb, List, [], length, replicate, Ok, refl, ap, ◌∙◌, ap₂, lit<, lit≤}
 use Rattle.poet.specs.Bytes.{Bytes, Block, ◌⊕◌}
 use Rattle.poet.specs.Seal.{Limits, Seals}
-use Rattle.poet.specs.Rows.{takes, gives, next, rows, last, cut, start, size, zed, sealing, cipher, tag}
+use Rattle.poet.specs.Rows.{takes, gives, next, rows, last, cut, start, length_mask, closing, sealing, cipher, tag}
 use Rattle.poet.proofs.Xors.{bytes_nil, bytes_replicate}
 use Rattle.poet.proofs.Computing.{computing_law}
 use Rattle.forms.specs.Filling.{padded, filled}
@@ -36,7 +36,7 @@ body_figure : (held brought : ℕ) → BodyFigure held brought (given_of (held +
 body_figure held brought n s h b free = ap (λ o. Body (answered o (given_of (held_of n + length s.bytes.now)))) free ∙ ap₂ (λ (x y : ℕ). Body (Ok (given_of (x + y)))) h b
 
 pub figures : Figures
-unfolding ◌⊕◌ padded filled chain_x chain_y chained takes gives next rows last cut start size zed sealing row_of
+unfolding ◌⊕◌ padded filled chain_x chain_y chained takes gives next rows last cut start length_mask closing sealing row_of
 figures = record {
   digest = λ key. refl;
   one_byte = λ key. computed key _ _ _ (limits _ (bytes_replicate 1 0x41 (lit< tt)) tt tt) refl refl;

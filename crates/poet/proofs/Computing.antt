@@ -4,11 +4,11 @@ use Rattle.std.proofs.lemmas.Bool.{lt-ltb, le-ltb, cond-true, cond-false}
 use Rattle.poet.specs.Bytes.{Block, ◌⊕◌}
 use Rattle.poet.specs.Functions.{Functions, Lawful}
 use Rattle.poet.specs.Seal.{Limits, Rows, Seals}
-use Rattle.poet.specs.Rows.{State, last, cut, whole, ends, size, zed, sealing, cipher, tag, Computed}
+use Rattle.poet.specs.Rows.{State, last, cut, whole, last_length, length_mask, closing, sealing, cipher, tag, Computed}
 use Rattle.poet.specs.Laws.{ComputingLaw}
 use Rattle.poet.proofs.Xors.{block_xor, block_comm, xor_swap, bytes_append, bytes_take, bytes_drop}
 use Rattle.poet.proofs.Rows.{Kept}
-use Rattle.poet.proofs.Opening.{size_block, ends_law, ends_most, ends_some, fills}
+use Rattle.poet.proofs.Opening.{length_mask_block, ends_law, ends_most, ends_some, fills}
 use Rattle.poet.proofs.Ties.{row, row_kept, row_length, ties, tied}
 
 -- a sequence up to n, and z from there on
@@ -37,10 +37,10 @@ rows_same f h n m c X Y X' Y' x y R = record {
 -- the last row and the tag, at n blocks and r bytes more
 record Last (f : Functions) (h m c t : List ℕ) (X Y : ℕ → List ℕ) (n r : ℕ) : Type 0 where
   before : Rows f h n m c X Y
-  x : X (suc n) ≡ f.chain (X n) ⊕ (drop (16 * n) m ++ take (16 - r) (f.dig h)) ⊕ size f (length m)
+  x : X (suc n) ≡ f.chain (X n) ⊕ (drop (16 * n) m ++ take (16 - r) (f.dig h)) ⊕ length_mask f (length m)
   y : Y (suc n) ≡ f.enc (X (suc n))
-  out : drop (16 * n) c ≡ take r (f.chain (Y n) ⊕ Y (suc n) ⊕ size f (length m))
-  tag : t ≡ drop r (f.chain (Y n) ⊕ Y (suc n) ⊕ size f (length m)) ++ take r (f.chain (Y (suc n)) ⊕ f.enc (f.chain (X (suc n)) ⊕ f.dig h) ⊕ f.dig h)
+  out : drop (16 * n) c ≡ take r (f.chain (Y n) ⊕ Y (suc n) ⊕ length_mask f (length m))
+  tag : t ≡ drop r (f.chain (Y n) ⊕ Y (suc n) ⊕ length_mask f (length m)) ++ take r (f.chain (Y (suc n)) ⊕ f.enc (f.chain (X (suc n)) ⊕ f.dig h) ⊕ f.dig h)
 
 module _ (f : Functions) (L : Lawful f) (h m : List ℕ) (lim : Limits h m) where
   fit : 16 * whole m ≤ length m
@@ -59,26 +59,26 @@ module _ (f : Functions) (L : Lawful f) (h m : List ℕ) (lim : Limits h m) wher
   dig_block = L.dig_block h lim.header_bytes
 
   tail : List ℕ
-  tail = drop (16 * whole m) m ++ take (16 - ends m) (f.dig h)
+  tail = drop (16 * whole m) m ++ take (16 - last_length m) (f.dig h)
 
   tail_block : Block tail
   unfolding tail
   tail_block = record {
     long =
-        omega (arith, length-append (drop (16 * whole m) m) (take (16 - ends m) (f.dig h)), length-drop (16 * whole m) m, fills m (f.dig h) dig_block, ends_law m lim.some);
+        omega (arith, length-append (drop (16 * whole m) m) (take (16 - last_length m) (f.dig h)), length-drop (16 * whole m) m, fills m (f.dig h) dig_block, ends_law m lim.some);
     bytes = bytes_append _ _ (bytes_drop _ m lim.bytes) (bytes_take _ _ dig_block.bytes);
   }
 
   end : State
-  end = last f.enc f.chain (size f (length m)) (at (whole m)) tail
+  end = last f.enc f.chain (length_mask f (length m)) (at (whole m)) tail
 
-  x_end_is : end.x ≡ f.chain (at (whole m)).x ⊕ tail ⊕ size f (length m)
+  x_end_is : end.x ≡ f.chain (at (whole m)).x ⊕ tail ⊕ length_mask f (length m)
   unfolding end last
-  x_end_is = xor_swap _ _ _ ∙ ap (λ (u : List ℕ). u ⊕ size f (length m)) (block_comm _ _ tail_block (L.chain_block _ kept.x_block))
+  x_end_is = xor_swap _ _ _ ∙ ap (λ (u : List ℕ). u ⊕ length_mask f (length m)) (block_comm _ _ tail_block (L.chain_block _ kept.x_block))
 
   x_end_block : Block end.x
   unfolding end last
-  x_end_block = block_xor _ _ (block_xor _ _ tail_block (size_block f L (length m) lim.most)) (L.chain_block _ kept.x_block)
+  x_end_block = block_xor _ _ (block_xor _ _ tail_block (length_mask_block f L (length m) lim.most)) (L.chain_block _ kept.x_block)
 
   y_end_is : end.y ≡ f.enc end.x
   unfolding end last
@@ -88,21 +88,21 @@ module _ (f : Functions) (L : Lawful f) (h m : List ℕ) (lim : Limits h m) wher
   unfolding end last
   y_end_block = L.permutes.enc_block _ x_end_block
 
-  out_end_is : end.out ≡ f.chain (at (whole m)).y ⊕ end.y ⊕ size f (length m)
+  out_end_is : end.out ≡ f.chain (at (whole m)).y ⊕ end.y ⊕ length_mask f (length m)
   unfolding end last
-  out_end_is = ap (λ (u : List ℕ). u ⊕ size f (length m)) (block_comm _ _ (L.permutes.enc_block _ x_end_block) (L.chain_block _ kept.y_block))
+  out_end_is = ap (λ (u : List ℕ). u ⊕ length_mask f (length m)) (block_comm _ _ (L.permutes.enc_block _ x_end_block) (L.chain_block _ kept.y_block))
 
-  z_is : zed f (f.dig h) end.x end.y ≡ f.chain end.y ⊕ f.enc (f.chain end.x ⊕ f.dig h) ⊕ f.dig h
-  unfolding zed
+  z_is : closing f (f.dig h) end.x end.y ≡ f.chain end.y ⊕ f.enc (f.chain end.x ⊕ f.dig h) ⊕ f.dig h
+  unfolding closing
   z_is =
       ap (λ (u : List ℕ). u ⊕ f.dig h)
       (block_comm _ _ (L.permutes.enc_block _ (block_xor _ _ (L.chain_block _ x_end_block) dig_block)) (L.chain_block _ y_end_block))
 
-  cipher_is : cipher f h m ≡ (at (whole m)).out ++ take (ends m) end.out
+  cipher_is : cipher f h m ≡ (at (whole m)).out ++ take (last_length m) end.out
   unfolding sealing cut end tail
   cipher_is = refl
 
-  tag_is : tag f h m ≡ drop (ends m) end.out ++ take (ends m) (zed f (f.dig h) end.x end.y)
+  tag_is : tag f h m ≡ drop (last_length m) end.out ++ take (last_length m) (closing f (f.dig h) end.x end.y)
   unfolding sealing cut end tail
   tag_is = refl
 
@@ -114,43 +114,43 @@ module _ (f : Functions) (L : Lawful f) (h m : List ℕ) (lim : Limits h m) wher
     abbrev Y : ℕ → List ℕ
     Y = upto (whole m) (λ i. (at i).y) end.y
 
-    to_last : Last f h m c t X Y (whole m) (ends m)
+    to_last : Last f h m c t X Y (whole m) (last_length m)
     unfolding tail
     to_last =
         let xn : X (whole m) ≡ (at (whole m)).x = upto_below (whole m) (λ i. (at i).x) end.x (whole m) (omega arith) in
         let yn : Y (whole m) ≡ (at (whole m)).y = upto_below (whole m) (λ i. (at i).y) end.y (whole m) (omega arith) in
         let xs : X (suc (whole m)) ≡ end.x = upto_past (whole m) (λ i. (at i).x) end.x in
         let ys : Y (suc (whole m)) ≡ end.y = upto_past (whole m) (λ i. (at i).y) end.y in
-        let c_is : c ≡ (at (whole m)).out ++ take (ends m) end.out = ce ∙ cipher_is in
+        let c_is : c ≡ (at (whole m)).out ++ take (last_length m) end.out = ce ∙ cipher_is in
         record {
           before =
               rows_same f h (whole m) m c (λ i. (at i).x) (λ i. (at i).y) X Y (upto_below (whole m) (λ i. (at i).x) end.x) (upto_below (whole m) (λ i. (at i).y) end.y)
               (ties f L h lim.header_bytes (whole m) m lim.bytes fit c (sym (ap (take (16 * whole m)) c_is ∙ take_at (at (whole m)).out _ (16 * whole m) at_length)));
           x = rw (xs, xn) x_end_is;
           y = rw (ys, xs) y_end_is;
-          out = rw (yn, ys) (ap (drop (16 * whole m)) c_is ∙ drop_at (at (whole m)).out _ (16 * whole m) at_length ∙ ap (take (ends m)) out_end_is);
-          tag = rw (yn, ys, xs) (te ∙ tag_is ∙ ap₂ (λ (u v : List ℕ). drop (ends m) u ++ take (ends m) v) out_end_is z_is);
+          out = rw (yn, ys) (ap (drop (16 * whole m)) c_is ∙ drop_at (at (whole m)).out _ (16 * whole m) at_length ∙ ap (take (last_length m)) out_end_is);
+          tag = rw (yn, ys, xs) (te ∙ tag_is ∙ ap₂ (λ (u v : List ℕ). drop (last_length m) u ++ take (last_length m) v) out_end_is z_is);
         }
 
   -- and back
-  module _ (c t : List ℕ) (X Y : ℕ → List ℕ) (E : Last f h m c t X Y (whole m) (ends m)) where
+  module _ (c t : List ℕ) (X Y : ℕ → List ℕ) (E : Last f h m c t X Y (whole m) (last_length m)) where
     at_end : ((at (whole m)).x ≡ X (whole m)) × ((at (whole m)).y ≡ Y (whole m)) × ((at (whole m)).out ≡ take (16 * whole m) c)
     at_end = tied f L h lim.header_bytes (whole m) m lim.bytes fit c X Y E.before (whole m) (omega arith)
 
     end_x : end.x ≡ X (suc (whole m))
     unfolding tail
-    end_x = x_end_is ∙ ap (λ (u : List ℕ). f.chain u ⊕ tail ⊕ size f (length m)) at_end.0 ∙ sym E.x
+    end_x = x_end_is ∙ ap (λ (u : List ℕ). f.chain u ⊕ tail ⊕ length_mask f (length m)) at_end.0 ∙ sym E.x
 
     end_y : end.y ≡ Y (suc (whole m))
     end_y = y_end_is ∙ ap f.enc end_x ∙ sym E.y
 
-    end_out : end.out ≡ f.chain (Y (whole m)) ⊕ Y (suc (whole m)) ⊕ size f (length m)
-    end_out = out_end_is ∙ ap₂ (λ (u v : List ℕ). f.chain u ⊕ v ⊕ size f (length m)) at_end.1 end_y
+    end_out : end.out ≡ f.chain (Y (whole m)) ⊕ Y (suc (whole m)) ⊕ length_mask f (length m)
+    end_out = out_end_is ∙ ap₂ (λ (u v : List ℕ). f.chain u ⊕ v ⊕ length_mask f (length m)) at_end.1 end_y
 
     from_cipher : c ≡ cipher f h m
     from_cipher =
         sym (
-        cipher_is ∙ ap₂ (λ (u v : List ℕ). u ++ take (ends m) v) at_end.2 end_out ∙ ap (λ (u : List ℕ). take (16 * whole m) c ++ u) (sym E.out)
+        cipher_is ∙ ap₂ (λ (u v : List ℕ). u ++ take (last_length m) v) at_end.2 end_out ∙ ap (λ (u : List ℕ). take (16 * whole m) c ++ u) (sym E.out)
         ∙ take-append-drop (16 * whole m) c
         )
 
@@ -159,18 +159,18 @@ module _ (f : Functions) (L : Lawful f) (h m : List ℕ) (lim : Limits h m) wher
         E.tag
         ∙ sym (
         tag_is
-        ∙ ap₂ (λ (u v : List ℕ). drop (ends m) u ++ take (ends m) v) end_out
+        ∙ ap₂ (λ (u v : List ℕ). drop (last_length m) u ++ take (last_length m) v) end_out
         (z_is ∙ ap₂ (λ (u v : List ℕ). f.chain u ⊕ f.enc (f.chain v ⊕ f.dig h) ⊕ f.dig h) end_y end_x)
         )
 
 to_seal : (f : Functions) → Lawful f → (h m c t : List ℕ) → Computed f h m c t → Seals f h m c t
-unfolding size
+unfolding length_mask
 to_seal f L h m c t s =
     let E = to_last f L h m s.limits c t s.cipher_is s.tag_is in
     record {
       limits = s.limits;
       n = whole m;
-      r = ends m;
+      r = last_length m;
       cut = sym (ends_law m s.limits.some);
       r_some = ends_some m s.limits.some;
       r_most = ends_most m;
@@ -191,7 +191,7 @@ to_seal f L h m c t s =
 
 -- the equations with S, C_whole and Z put in
 at_last : (f : Functions) (h m c t : List ℕ) (s : Seals f h m c t) → Last f h m c t s.X s.Y s.n s.r
-unfolding size
+unfolding length_mask
 at_last f h m c t s = record {
   before = s.rows;
   x = rw (← s.S_is) s.X_last;
@@ -203,8 +203,8 @@ at_last f h m c t s = record {
 from_seal : (f : Functions) → Lawful f → (h m c t : List ℕ) → Seals f h m c t → Computed f h m c t
 from_seal f L h m c t s =
     let en : s.n ≡ whole m = omega (arith, s.cut, s.r_some, s.r_most) in
-    let er : s.r ≡ ends m = omega (arith, s.cut, s.r_some, s.r_most) in
-    let E : Last f h m c t s.X s.Y (whole m) (ends m) = subst₂ (Last f h m c t s.X s.Y) en er (at_last f h m c t s) in
+    let er : s.r ≡ last_length m = omega (arith, s.cut, s.r_some, s.r_most) in
+    let E : Last f h m c t s.X s.Y (whole m) (last_length m) = subst₂ (Last f h m c t s.X s.Y) en er (at_last f h m c t s) in
     record { limits = s.limits; cipher_is = from_cipher f L h m s.limits c t s.X s.Y E; tag_is = from_tag f L h m s.limits c t s.X s.Y E }
 
 pub computing_law : ComputingLaw

@@ -1,7 +1,7 @@
 -- The first blocks out come from the first blocks in, and tell them apart.
 use Rattle.std.proofs.Common.{◌≡◌, ℕ, zero, suc, ◌+◌, ◌-◌, ◌*◌, ◌<◌, ◌≤◌, List, [], ◌++◌, length, take, drop, sym, ap, ◌∙◌, append_assoc, append-nil, arith, take-append-drop, length-take-le, take_at}
 use Rattle.poet.specs.Bytes.{Bytes, block}
-use Rattle.poet.specs.Rows.{State, turned, next, gives, rows, cut, whole, ends}
+use Rattle.poet.specs.Rows.{State, turned, next, gives, rows, cut, whole, last_length}
 use Rattle.poet.proofs.Rows.{Kept, rows_front, rows_add, rows_length}
 use Rattle.poet.proofs.Turn.{Ways, rows_turn}
 
@@ -30,7 +30,7 @@ module _ (e d c : List ℕ → List ℕ) (w : Ways e d c) (s : State) (k : Kept 
     front_only = ap (rows e c n s) (sym (take-append-drop (16 * n) a)) ∙ rows_front e c n s (take (16 * n) a) (drop (16 * n) a) (omega (arith, length-take-le (16 * n) a l))
 
   -- the first n blocks of what all rows give out
-  pub cut_front : (S : List ℕ) (n : ℕ) (a fill : List ℕ) → Bytes a → 16 * n < length a → take (16 * n) (cut e c S (whole a) (ends a) s a fill).out ≡ (rows e c n s a).out
+  pub cut_front : (S : List ℕ) (n : ℕ) (a fill : List ℕ) → Bytes a → 16 * n < length a → take (16 * n) (cut e c S (whole a) (last_length a) s a fill).out ≡ (rows e c n s a).out
   unfolding cut
   cut_front S n a fill b l =
       let p = rows_begin e c n (whole a) s a (omega arith) in

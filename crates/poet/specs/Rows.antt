@@ -1,12 +1,13 @@
--- The same by computing: rows over a state, sealing, and opening, which is sealing with D for E and with X and Y exchanged.
--- Laws.antt states that this is the seal of Seal.antt.
+-- The same by computing: rows over a state, sealing, and opening, which is sealing with D for E and
+-- with X and Y exchanged. Laws.antt states that this is the seal of Seal.antt.
 use Rattle.std.specs.Prelude.{◌≡◌, ℕ, zero, suc, ◌-◌, ◌*◌, ◌/◌, List, [], ◌++◌, length, take, drop}
 use Rattle.poet.specs.Bytes.{Block, block, ◌⊕◌}
 use Rattle.poet.specs.Functions.{Functions}
 use Rattle.poet.specs.Seal.{Limits}
 
--- What stands after some rows: the last block of the sequence that takes blocks in, that of the sequence that gives blocks out,
--- and all that was given out. Sealing takes in at X and gives out at Y.
+-- What stands after some rows: the last block of the sequence that takes blocks in, that of the
+-- sequence that gives blocks out, and all that was given out. Sealing takes in at X and gives out
+-- at Y.
 pub record State : Type 0 where
   pub x : List ℕ
   pub y : List ℕ
@@ -35,25 +36,26 @@ last e c S s b = let x : List ℕ = b ⊕ S ⊕ c s.x in record { x = x; y = e x
 abbrev pub whole : List ℕ → ℕ
 whole m = (length m - 1) / 16
 
-abbrev pub ends : List ℕ → ℕ
-ends m = length m - 16 * whole m
+abbrev pub last_length : List ℕ → ℕ
+last_length m = length m - 16 * whole m
 
--- All rows over `a`, whose last block `fill` completes: what they give out, as long as `a`; the rest of the last block given out; the last x and y.
-pub record Sheet : Type 0 where
+-- All rows over `a`, whose last block `fill` completes: what they give out, as long as `a`; the
+-- rest of the last block given out; the last x and y.
+pub record AllRows : Type 0 where
   pub out : List ℕ
   pub rest : List ℕ
   pub x : List ℕ
   pub y : List ℕ
 
 -- ... at n blocks and r bytes more
-unfoldable pub cut : (e c : List ℕ → List ℕ) → List ℕ → ℕ → ℕ → State → List ℕ → List ℕ → Sheet
+unfoldable pub cut : (e c : List ℕ → List ℕ) → List ℕ → ℕ → ℕ → State → List ℕ → List ℕ → AllRows
 cut e c S n r s a fill =
     let t : State = rows e c n s a in
     let z : State = last e c S t (drop (16 * n) a ++ fill) in
     record { out = t.out ++ take r z.out; rest = drop r z.out; x = z.x; y = z.y }
 
-abbrev pub sheet : (e c : List ℕ → List ℕ) → List ℕ → State → List ℕ → List ℕ → Sheet
-sheet e c S s a fill = cut e c S (whole a) (ends a) s a fill
+abbrev pub all_rows : (e c : List ℕ → List ℕ) → List ℕ → State → List ℕ → List ℕ → AllRows
+all_rows e c S s a fill = cut e c S (whole a) (last_length a) s a fill
 
 -- before the first row of a sealing, and of an opening
 unfoldable pub start : Functions → List ℕ → State
@@ -63,21 +65,23 @@ abbrev pub turned : State → State
 turned s = record { x = s.y; y = s.x; out = [] }
 
 -- S for n bytes, and Z from τ and the last X and Y
-unfoldable pub size : Functions → ℕ → List ℕ
-size f n = f.enc (f.num (8 * n))
+unfoldable pub length_mask : Functions → ℕ → List ℕ
+length_mask f n = f.enc (f.num (8 * n))
 
-unfoldable pub zed : Functions → List ℕ → List ℕ → List ℕ → List ℕ
-zed f t x y = f.enc (f.chain x ⊕ t) ⊕ f.chain y ⊕ t
+unfoldable pub closing : Functions → List ℕ → List ℕ → List ℕ → List ℕ
+closing f t x y = f.enc (f.chain x ⊕ t) ⊕ f.chain y ⊕ t
 
 -- sealing
-unfoldable pub sealing : Functions → List ℕ → List ℕ → Sheet
-sealing f h m = sheet f.enc f.chain (size f (length m)) (start f h) m (take (16 - ends m) (f.dig h))
+unfoldable pub sealing : Functions → List ℕ → List ℕ → AllRows
+sealing f h m = all_rows f.enc f.chain (length_mask f (length m))
+    (start f h) m (take (16 - last_length m) (f.dig h))
 
 abbrev pub cipher : Functions → List ℕ → List ℕ → List ℕ
 cipher f h m = (sealing f h m).out
 
 abbrev pub tag : Functions → List ℕ → List ℕ → List ℕ
-tag f h m = (sealing f h m).rest ++ take (ends m) (zed f (f.dig h) (sealing f h m).x (sealing f h m).y)
+tag f h m = (sealing f h m).rest ++ take (last_length m)
+    (closing f (f.dig h) (sealing f h m).x (sealing f h m).y)
 
 pub record Computed (f : Functions) (h m c t : List ℕ) : Type 0 where
   pub limits : Limits h m
@@ -85,8 +89,9 @@ pub record Computed (f : Functions) (h m c t : List ℕ) : Type 0 where
   pub tag_is : t ≡ tag f h m
 
 -- opening: what it computes, and its tests
-unfoldable pub opening : Functions → List ℕ → List ℕ → List ℕ → Sheet
-opening f h c t = sheet f.dec f.chain (size f (length c)) (turned (start f h)) c (take (16 - ends c) t)
+unfoldable pub opening : Functions → List ℕ → List ℕ → List ℕ → AllRows
+opening f h c t = all_rows f.dec f.chain (length_mask f (length c))
+    (turned (start f h)) c (take (16 - last_length c) t)
 
 abbrev pub opened : Functions → List ℕ → List ℕ → List ℕ → List ℕ
 opened f h c t = (opening f h c t).out
@@ -95,6 +100,7 @@ pub record Accepts (f : Functions) (h c t : List ℕ) : Type 0 where
   pub limits : Limits h c
   pub tag_block : Block t
   -- the last block ends with the first bytes of τ
-  pub fill : (opening f h c t).rest ≡ take (16 - ends c) (f.dig h)
+  pub fill : (opening f h c t).rest ≡ take (16 - last_length c) (f.dig h)
   -- the tag ends with the first bytes of Z
-  pub check : drop (16 - ends c) t ≡ take (ends c) (zed f (f.dig h) (opening f h c t).y (opening f h c t).x)
+  pub check : drop (16 - last_length c) t ≡ take (last_length c)
+      (closing f (f.dig h) (opening f h c t).y (opening f h c t).x)

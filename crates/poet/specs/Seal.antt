@@ -18,9 +18,10 @@ pub record Limits (H M : List ℕ) : Type 0 where
   pub some : 1 ≤ length M
   pub most : length M ≤ body_most
 
--- The first n rows, which tie the first n blocks of a message M and of a ciphertext C to one another under the header H.
--- Sealing goes through them from M to C, and opening from C to M.
-pub record Rows (f : Functions) (H : List ℕ) (n : ℕ) (M C : List ℕ) (X Y : ℕ → List ℕ) : Type 0 where
+-- The first n rows, which tie the first n blocks of a message M and of a ciphertext C to one
+-- another under the header H. Sealing goes through them from M to C, and opening from C to M.
+pub record Rows (f : Functions) (H : List ℕ) (n : ℕ) (M C : List ℕ)
+    (X Y : ℕ → List ℕ) : Type 0 where
   pub X_first : X 0 ≡ f.dig H
   pub Y_first : Y 0 ≡ f.dig H ⊕ f.num 1
   pub X_row : (i : ℕ) → i < n → X (suc i) ≡ f.chain (X i) ⊕ block i M

@@ -1,7 +1,8 @@
-// POET v2.0 as definitions and laws, over functions of which only their laws are known; and the two functions on
-// blocks that every layer above needs.
+// POET v2.0 as definitions and laws, over functions of which only their laws are known; and the two
+// functions on blocks that every layer above needs.
 //
-// A function whose name ends in `_stands` does nothing: its contract is a theorem, and the crate is refused without the proof.
+// A function whose name ends in `_stands` does nothing: its contract is a theorem, and the crate is
+// refused without the proof.
 #![tactic(auto)]
 
 ghost use Rattle.poet.specs.Bytes.{◌⊕◌};
@@ -10,14 +11,15 @@ ghost use Rattle.std.specs.Prelude.{◌≡◌, ◌++◌, take};
 
 use std::array;
 
-// a ⊕ b
+/// The exclusive or of two blocks, byte by byte.
 pub fn xor(a: [u8; 16], b: [u8; 16]) -> [u8; 16]
     ensures { result ≡ a ⊕ b }
 {
     array::from_fn(|i| a[i] ^ b[i])
 }
 
-// `front`, completed to a block with the first bytes of `fill`.
+/// `front`, completed to a block with the first bytes of `fill`; its own first sixteen bytes, if it
+/// has more.
 pub fn complete(front: &[u8], fill: &[u8; 16]) -> [u8; 16]
     ensures { result ≡ take 16 (front.now ++ fill.now) }
 {
@@ -28,7 +30,8 @@ pub fn complete(front: &[u8], fill: &[u8; 16]) -> [u8; 16]
     block
 }
 
-// What the definitions compute is the seal by its equations, and nothing else is; and what lengths a seal has.
+/// A theorem: what the definitions compute is the seal by its equations, and nothing else is; a
+/// seal's ciphertext is as long as its message, and its tag has sixteen bytes.
 pub fn computing_stands() -> u8
     ensures computing { ComputingLaw }
     ensures lengths { TagLaw }
@@ -36,14 +39,15 @@ pub fn computing_stands() -> u8
     0
 }
 
-// Opening accepts exactly what some message seals to, and computes that message, which is the only one.
+/// A theorem: opening accepts exactly what some message seals to, and computes that message, which
+/// is the only one.
 pub fn opening_stands() -> u8
     ensures { OpeningLaw }
 {
     0
 }
 
-// The first blocks on one side are the same exactly when those on the other side are.
+/// A theorem: the first blocks on one side are the same exactly when those on the other side are.
 pub fn prefix_stands() -> u8
     ensures rows { PrefixLaw }
     ensures sealing { SealingPrefix }
@@ -52,14 +56,14 @@ pub fn prefix_stands() -> u8
     0
 }
 
-// Bytes that come in pieces of any size go through the same rows.
+/// A theorem: bytes that come in pieces of any size go through the same rows.
 pub fn pieces_stands() -> u8
     ensures { PiecesLaw }
 {
     0
 }
 
-// Some functions are lawful, so that the laws speak of something.
+/// A theorem: some functions are lawful, so that the laws speak of something.
 pub fn lawful_stands() -> u8
     ensures { LawfulSome }
 {

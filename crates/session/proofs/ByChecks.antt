@@ -1,5 +1,5 @@
 -- What each call does, by its check: all that its contract says, gathered as proofs use it.
-use Rattle.std.proofs.Common.{◌≡◌, ℕ, ◌+◌, ◌-◌, ◌↔◌, true, false, List, [], ◌++◌, length, take, drop, replicate, IfOk, IfErr, Some, None, Ok, Err, Option, Result, sym, refl, ap, ◌∙◌, subst, append-nil}
+use Rattle.std.proofs.Common.{◌≡◌, ℕ, ◌+◌, ◌-◌, ◌↔◌, List, [], ◌++◌, length, take, drop, replicate, IfOk, IfErr, Some, None, Ok, Err, Option, Result, sym, refl, ap, ◌∙◌, subst, append-nil}
 use Rattle.std.specs.Result.{OnOk, OnErr, IsOk}
 use Rattle.fault.specs.declared.kinds.KeyFault.{KeyFault}
 use Rattle.fault.specs.declared.kinds.SessionFault.{SessionFault}

@@ -24,7 +24,7 @@ use Rattle.session.specs.declared.types.Session.{Session}
 use Rattle.session.specs.declared.types.Heading.{Heading}
 use Rattle.session.specs.Directions.{Direction, sealing, opening}
 use Rattle.session.specs.Runs.{Run, fresh, finished, last_of}
-use Rattle.session.specs.Promise.{Blocks, AgreesWith}
+use Rattle.session.specs.Promise.{Blocks}
 use Rattle.session.specs.Sessions.{HeadingAt, SessionAt, held, writes, sealing_check, opening_check}
 use Rattle.session.proofs.ByChecks.{SealedBy, OpenedBy}
 use Rattle.session.specs.Scripts.{run_of, headers_taken, header_answers, held_of, body_answers}

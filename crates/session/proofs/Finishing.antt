@@ -9,7 +9,7 @@ use Rattle.fault.specs.Refusals.{refusal, IsRefusal, RefusedBy, session_faults}
 use Rattle.poet.specs.Bytes.{Bytes, Block}
 use Rattle.poet.specs.Functions.{Functions, Lawful}
 use Rattle.poet.specs.Seal.{body_most, Limits, Seals}
-use Rattle.poet.specs.Rows.{ends, cipher, tag, opened}
+use Rattle.poet.specs.Rows.{last_length, cipher, tag, opened}
 use Rattle.poet.proofs.Computing.{computing_law}
 use Rattle.poet.proofs.Accepting.{opening_law, tag_law}
 use Rattle.session.specs.Calls.{tag_check, forged}
@@ -26,18 +26,18 @@ pub limits : (R : Run) → Taken R → 1 ≤ length R.body → length R.body ≤
 limits R t some most = record { header_bytes = t.header_bytes; header_most = t.header_most; bytes = t.body_bytes; some = some; most = most }
 
 -- the bytes held back are those of the last block
-pub held_is : (f : Functions) → Lawful f → (w : Direction) (R : Run) → Taken R → R.out ≡ (rows_of w f R).out → held R ≡ ends R.body
+pub held_is : (f : Functions) → Lawful f → (w : Direction) (R : Run) → Taken R → R.out ≡ (rows_of w f R).out → held R ≡ last_length R.body
 held_is f L w R t e = let o = out_length f L w R t.header_bytes t.body_bytes e in omega arith
 
-module _ (f : Functions) (L : Lawful f) (R : Run) (t : Taken R) (lim : Limits R.header R.body) (len : ℕ) (le : len ≡ ends R.body) (g q l : List ℕ) (j : ℕ) (gl : length g ≡ 16) (je : j ≡ len)
+module _ (f : Functions) (L : Lawful f) (R : Run) (t : Taken R) (lim : Limits R.header R.body) (len : ℕ) (le : len ≡ last_length R.body) (g q l : List ℕ) (j : ℕ) (gl : length g ≡ 16) (je : j ≡ len)
     (qe : q ≡ take j g) (e : l ≡ take 16 (q ++ replicate 16 0)) where
-  bytes : (w : Direction) → R.out ≡ (rows_of w f R).out → (take (held R) l ≡ take (ends R.body) g) × (drop (held R) l ≡ replicate (16 - held R) 0)
+  bytes : (w : Direction) → R.out ≡ (rows_of w f R).out → (take (held R) l ≡ take (last_length R.body) g) × (drop (held R) l ≡ replicate (16 - held R) 0)
   bytes w oe =
       let h = held_is f L w R t oe in
       let b = last_bytes g q l (held R) j gl (omega arith) (omega arith) qe e in
       (b.0 ∙ ap (λ n. take n g) h, b.1)
 
-  pub seal_finished : (T : List ℕ) → R.out ≡ (rows_of sealing f R).out → ((rows_of sealing f R).out ++ take (ends R.body) g ≡ cipher f R.header R.body) × (T ≡ tag f R.header R.body) → SealFinished f R l T (Ok len)
+  pub seal_finished : (T : List ℕ) → R.out ≡ (rows_of sealing f R).out → ((rows_of sealing f R).out ++ take (last_length R.body) g ≡ cipher f R.header R.body) × (T ≡ tag f R.header R.body) → SealFinished f R l T (Ok len)
   seal_finished T oe s =
       let b = bytes sealing oe in
       let seals : Seals f R.header R.body (R.out ++ take (held R) l) T =
@@ -86,7 +86,7 @@ module _ (f : Functions) (L : Lawful f) (R : Run) (t : Taken R) (total : ℕ) (t
   same_tag : (o : Option (List ℕ)) → Tested f R.header R.body T' (rows_of opening f R).out o → Tested f R.header R.body T (rows_of opening f R).out o
   same_tag o s = subst (λ (u : List ℕ). Tested f R.header R.body u (rows_of opening f R).out o) same s
 
-  pub opening_accepts : (len : ℕ) (g q l : List ℕ) (j : ℕ) → Tested f R.header R.body T' (rows_of opening f R).out (Some g) → len ≡ ends R.body → length g ≡ 16 → j ≡ len → q ≡ take j g → l ≡ take 16 (q ++ replicate 16 0)
+  pub opening_accepts : (len : ℕ) (g q l : List ℕ) (j : ℕ) → Tested f R.header R.body T' (rows_of opening f R).out (Some g) → len ≡ last_length R.body → length g ≡ 16 → j ≡ len → q ≡ take j g → l ≡ take 16 (q ++ replicate 16 0)
       → OpenedBy (opening_check R T) f R T l (Ok len)
   opening_accepts len g q l j s le gl je qe e = rw (taken_some, sixteen) (open_finished f L R t lim len le g q l j gl je qe e T tag_block oe (same_tag (Some g) s))
 

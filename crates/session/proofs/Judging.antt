@@ -1,5 +1,5 @@
 -- The calls for whole buffers: from their checks and the session that they run to what their contracts say.
-use Rattle.std.proofs.Common.{◌≡◌, ℕ, ◌≤◌, ◌↔◌, List, ◌++◌, length, take, drop, replicate, IfOk, None, Ok, Err, Option, Result, sym, refl, ap, ◌∙◌, subst, arith, ltb-false}
+use Rattle.std.proofs.Common.{◌≡◌, ℕ, ◌≤◌, ◌↔◌, List, ◌++◌, length, take, drop, replicate, None, Ok, Err, Option, Result, sym, refl, ap, ◌∙◌, subst, arith, ltb-false}
 use Rattle.std.proofs.lemmas.List.{drop_at, length-replicate}
 use Rattle.std.specs.Result.{IsOk}
 use Rattle.fault.specs.declared.kinds.SessionFault.{SessionFault}

@@ -1,10 +1,10 @@
 -- What is sealed passes every check. So a check that fails, for want of room and for a key of another length apart, means that nothing
 -- seals so.
-use Rattle.std.proofs.Common.{◌≡◌, ℕ, ◌≤◌, true, false, eqb, ltb, List, length, None, refl, ap, ◌∙◌, arith, le-ltb, ne_eqb, eq-eqb}
+use Rattle.std.proofs.Common.{◌≡◌, ℕ, ◌≤◌, true, false, eqb, ltb, List, length, None, arith, le-ltb, ne_eqb, eq-eqb}
 use Rattle.poet.specs.Functions.{Functions, Lawful}
 use Rattle.poet.specs.Seal.{header_most, body_most, Seals}
 use Rattle.poet.proofs.Accepting.{tag_law}
-use Rattle.session.specs.Calls.{tag_check, seal_checks, open_checks}
+use Rattle.session.specs.Calls.{seal_checks, open_checks}
 use Rattle.session.specs.Runs.{Run}
 use Rattle.session.specs.Sessions.{sealing_check, opening_check}
 

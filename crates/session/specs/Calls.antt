@@ -11,7 +11,8 @@ use Rattle.fault.specs.Refusals.{Refusal, refusal, placed, inside, IsRefusal, Re
 use Rattle.poet.specs.Functions.{Functions}
 use Rattle.poet.specs.Seal.{header_most, body_most, Seals}
 
--- The checks, each with the refusal where it fails: its fault, number, layer and place. The first that fails is the refusal.
+-- The checks, each with the refusal where it fails: its fault, number, layer and place. The first
+-- that fails is the refusal.
 abbrev pub key_check : (key : List ℕ) → Option (Refusal KeyFault)
 key_check key = if length key == 16 then None else Some (refusal Length 3 KeyLayer (length key))
 
@@ -19,7 +20,8 @@ abbrev pub tag_check : (T : List ℕ) (place : ℕ) → Option (Refusal SessionF
 tag_check T place = if length T == 16 then None else Some (refusal Tag 8 SessionLayer place)
 
 -- header, body M and room, in their order; `more` is the check that comes after these
-abbrev pub body_checks : (H M : List ℕ) (room : ℕ) → Option (Refusal SessionFault) → Option (Refusal SessionFault)
+abbrev pub body_checks : (H M : List ℕ) (room : ℕ) → Option (Refusal SessionFault)
+    → Option (Refusal SessionFault)
 body_checks H M room more =
     if nat_lt header_most (length H) then Some (refusal Header 4 SessionLayer 0)
     else if nat_lt body_most (length M) then Some (refusal Body 5 SessionLayer 0)
@@ -28,8 +30,10 @@ body_checks H M room more =
     else more
 
 -- the key comes first
-abbrev pub checks : (key H M : List ℕ) (room : ℕ) → Option (Refusal SessionFault) → Option (Refusal SessionFault)
-checks key H M room more = option_or (option_map (inside Key) (key_check key)) (body_checks H M room more)
+abbrev pub checks : (key H M : List ℕ) (room : ℕ) → Option (Refusal SessionFault)
+    → Option (Refusal SessionFault)
+checks key H M room more = option_or (option_map (inside Key) (key_check key))
+    (body_checks H M room more)
 
 -- those of sealing and of opening into the buffer o
 abbrev pub seal_checks : (key H M o : List ℕ) → Option (Refusal SessionFault)
@@ -47,7 +51,8 @@ abbrev pub answered : {F X : Type 0} → Option (Refusal F) → X → Result X (
 answered (Some e) x = Err (placed e)
 answered None x = Ok x
 
--- A sealing that answers r, under the functions that `under` gives for a key; the buffers o and t became o' and t'.
+-- A sealing that answers r, under the functions that `under` gives for a key; the buffers o and t
+-- became o' and t'.
 pub record SealCall (under : List ℕ → Functions) (key H M o t o' t' : List ℕ)
     (r : Result ℕ (Placed SessionFault)) : Type 0 where
   -- it refuses exactly if a check fails, and then as the first of these
@@ -66,7 +71,8 @@ pub record SealCall (under : List ℕ → Functions) (key H M o t o' t' : List �
 pub record OpenCall (under : List ℕ → Functions) (key H C T o o' : List ℕ)
     (r : Result ℕ (Placed SessionFault)) : Type 0 where
   -- it refuses as the first check that fails, and alters nothing then
-  pub refused : (e : Refusal SessionFault) → open_checks key H C T o ≡ Some e → Refuses session_faults e r × (o' ≡ o)
+  pub refused : (e : Refusal SessionFault) → open_checks key H C T o ≡ Some e
+      → Refuses session_faults e r × (o' ≡ o)
   -- with a key and room enough, it accepts exactly what some message seals to
   pub accepts : length key ≡ 16 → length C ≤ length o
       → IsOk r ↔ ((M : List ℕ) × Seals (under key) H M C T)

@@ -5,9 +5,10 @@ use Rattle.suite.specs.declared.Permutation as permutation
 use Rattle.suite.specs.declared.ChainingHash as hash
 use Rattle.session.specs.declared.engine.Engine.{Engine}
 
--- The engine s holds the functions f, and has taken the header H. Kept: p and h are written out, since a struct with no ghost field has a
--- type that does not name them.
-pub record EngineAt {A B C D : Type 0} (p : permutation.Ghosts B) (h : hash.Ghosts C) (f : Functions) (H : List ℕ) (s : Engine A B C D) : Type 0 where
+-- The engine s holds the functions f, and has taken the header H. Kept: p and h are written out,
+-- since a struct with no ghost field has a type that does not name them.
+pub record EngineAt {A B C D : Type 0} (p : permutation.Ghosts B) (h : hash.Ghosts C)
+    (f : Functions) (H : List ℕ) (s : Engine A B C D) : Type 0 where
   pub enc_is : p.enc s.permutation ≡ f.enc
   pub dec_is : p.dec s.permutation ≡ f.dec
   pub chain_is : h.chain s.hash ≡ f.chain

@@ -16,19 +16,22 @@ abbrev pub written_of : Result (ℕ × ℕ) (Placed SessionFault) → List ℕ �
 written_of (Ok n) b = take n.0 b
 written_of (Err e) b = []
 
-pub record HeaderKept (r : Result (Unit {0}) (Placed SessionFault)) (P : List ℕ) (p p' : Played) : Type 0 where
+pub record HeaderKept (r : Result (Unit {0}) (Placed SessionFault)) (P : List ℕ)
+    (p p' : Played) : Type 0 where
   pub header : vec_items p'.header ≡ vec_items p.header ++ kept r P
   pub body : p'.body ≡ p.body
   pub out : p'.out ≡ p.out
   pub answers : vec_items p'.answers ≡ vec_items p.answers ++ Header r ∷ []
 
-pub record BodyKept (r : Result (ℕ × ℕ) (Placed SessionFault)) (P b : List ℕ) (p p' : Played) : Type 0 where
+pub record BodyKept (r : Result (ℕ × ℕ) (Placed SessionFault)) (P b : List ℕ)
+    (p p' : Played) : Type 0 where
   pub header : p'.header ≡ p.header
   pub body : vec_items p'.body ≡ vec_items p.body ++ kept r P
   pub out : vec_items p'.out ≡ vec_items p.out ++ written_of r b
   pub answers : vec_items p'.answers ≡ vec_items p.answers ++ Body r ∷ []
 
-pub record FinishKept (r : Result ℕ (Placed SessionFault)) (last : List ℕ) (p p' : Played) : Type 0 where
+pub record FinishKept (r : Result ℕ (Placed SessionFault)) (last : List ℕ)
+    (p p' : Played) : Type 0 where
   pub header : p'.header ≡ p.header
   pub body : p'.body ≡ p.body
   pub out : vec_items p'.out ≡ vec_items p.out ++ last_of r last

@@ -6,7 +6,8 @@ use Rattle.poet.specs.Seal.{Tied}
 use Rattle.session.specs.Directions.{Direction, sealing, opening}
 use Rattle.session.specs.Runs.{Run}
 
--- the first k blocks taken and the first k handed out are tied by the rows: message and ciphertext, or ciphertext and message
+-- the first k blocks taken and the first k handed out are tied by the rows: message and ciphertext,
+-- or ciphertext and message
 abbrev pub TiedBy : Direction → (f : Functions) (H : List ℕ) (k : ℕ) (body out : List ℕ) → Type 0
 TiedBy sealing f H k body out = Tied f H k body out
 TiedBy opening f H k body out = Tied f H k out body
@@ -20,11 +21,16 @@ pub record Blocks (w : Direction) (f : Functions) (R : Run) : Type 0 where
   pub handed : (k : ℕ) → 16 * k < length R.body → 16 * k ≤ length R.out
   pub tied : (k : ℕ) → 16 * k < length R.body → TiedBy w f R.header k R.body R.out
 
--- Two runs under one key and header handed out the same first k blocks exactly when they took the same first k blocks.
+-- Two runs under one key and header handed out the same first k blocks exactly when they took the
+-- same first k blocks.
 abbrev pub AgreesWith : Direction → Functions → Run → Type 0
-AgreesWith w f R = (R' : Run) → Blocks w f R' → R'.header ≡ R.header → (k : ℕ) → 16 * k < length R.body → 16 * k < length R'.body → (take (16 * k) R.out ≡ take (16 * k) R'.out) ↔ (take (16 * k) R.body ≡ take (16 * k) R'.body)
+AgreesWith w f R = (R' : Run) → Blocks w f R' → R'.header ≡ R.header → (k : ℕ)
+    → 16 * k < length R.body → 16 * k < length R'.body
+    → (take (16 * k) R.out ≡ take (16 * k) R'.out) ↔ (take (16 * k) R.body ≡ take (16 * k) R'.body)
 
--- Two such runs under one key and header handed out the same first k blocks exactly when they took the same first k blocks.
+-- Two such runs under one key and header handed out the same first k blocks exactly when they took
+-- the same first k blocks.
 abbrev pub TwoRuns : Type 0
-TwoRuns = (w : Direction) (f : Functions) → Lawful f → (R R' : Run) → Blocks w f R → Blocks w f R' → R'.header ≡ R.header → (k : ℕ) → 16 * k < length R.body → 16 * k < length R'.body
+TwoRuns = (w : Direction) (f : Functions) → Lawful f → (R R' : Run) → Blocks w f R → Blocks w f R'
+    → R'.header ≡ R.header → (k : ℕ) → 16 * k < length R.body → 16 * k < length R'.body
     → (take (16 * k) R.out ≡ take (16 * k) R'.out) ↔ (take (16 * k) R.body ≡ take (16 * k) R'.body)

@@ -3,8 +3,8 @@ use Rattle.std.specs.Prelude.{ℕ, List, [], ◌++◌, take, Ok, Err, Result}
 use Rattle.fault.specs.declared.kinds.SessionFault.{SessionFault}
 use Rattle.fault.specs.declared.kinds.Placed.{Placed}
 
--- Taken are the bytes of the calls that were not refused, in order; handed out are the bytes that such body calls wrote, in order, and
--- then the last bytes of a finish that was accepted.
+-- Taken are the bytes of the calls that were not refused, in order; handed out are the bytes that
+-- such body calls wrote, in order, and then the last bytes of a finish that was accepted.
 pub record Run : Type 0 where
   pub key : List ℕ
   pub header : List ℕ

@@ -22,11 +22,14 @@ taken (Some e) H p = H
 -- header calls, after H was taken
 abbrev pub headers_taken : List ℕ → List Stretch → List ℕ
 headers_taken H [] = H
-headers_taken H (s ∷ ss) = headers_taken (taken (header_check (length H) (length s.bytes.now)) H s.bytes.now) ss
+headers_taken H (s ∷ ss) = headers_taken (taken (header_check (length H)
+    (length s.bytes.now)) H s.bytes.now) ss
 
 abbrev pub header_answers : List ℕ → List Stretch → List Answer
 header_answers H [] = []
-header_answers H (s ∷ ss) = Header (answered (header_check (length H) (length s.bytes.now)) tt) ∷ header_answers (taken (header_check (length H) (length s.bytes.now)) H s.bytes.now) ss
+header_answers H (s ∷ ss) = Header (answered (header_check (length H)
+    (length s.bytes.now)) tt) ∷ header_answers (taken (header_check (length H)
+    (length s.bytes.now)) H s.bytes.now) ss
 
 -- body calls, after n bytes were taken: those that no row has given out are held
 abbrev pub held_of : ℕ → ℕ

@@ -28,7 +28,8 @@ pub record Taken (R : Run) : Type 0 where
   pub body_bytes : Bytes R.body
 
 -- the heading s stands at the run R
-pub record HeadingAt {A B C D : Type 0} {u : suite.Ghosts A B C D} {p : permutation.Ghosts B} {h : hash.Ghosts C} {d : digest.Ghosts D} (R : Run) (s : Heading A B C D u p h d) : Type 0 where
+pub record HeadingAt {A B C D : Type 0} {u : suite.Ghosts A B C D} {p : permutation.Ghosts B}
+    {h : hash.Ghosts C} {d : digest.Ghosts D} (R : Run) (s : Heading A B C D u p h d) : Type 0 where
   pub taken : Taken R
   pub no_body : R.body ≡ []
   pub no_out : R.out ≡ []
@@ -40,10 +41,13 @@ pub record HeadingAt {A B C D : Type 0} {u : suite.Ghosts A B C D} {p : permutat
 
 -- the rows of a run
 abbrev pub rows_of : (w : Direction) (f : Functions) → Run → State
-rows_of w f R = rows (picks w f.enc f.dec) f.chain (whole R.body) (turns w (start f R.header)) R.body
+rows_of w f R = rows (picks w f.enc f.dec) f.chain (whole R.body)
+    (turns w (start f R.header)) R.body
 
 -- the session s stands at the run R
-pub record SessionAt {A W B C D : Type 0} {u : suite.Ghosts A B C D} {p : permutation.Ghosts B} {h : hash.Ghosts C} {d : digest.Ghosts D} {w : way.Ghosts W} (R : Run) (s : Session A W B C D u p h d w) : Type 0 where
+pub record SessionAt {A W B C D : Type 0} {u : suite.Ghosts A B C D} {p : permutation.Ghosts B}
+    {h : hash.Ghosts C} {d : digest.Ghosts D} {w : way.Ghosts W} (R : Run)
+    (s : Session A W B C D u p h d w) : Type 0 where
   pub taken : Taken R
   pub engine : EngineAt p h (u.under R.key) R.header s.engine
   pub x_is : s.lanes.taking ≡ (rows_of w.way (u.under R.key) R).x
@@ -54,9 +58,12 @@ pub record SessionAt {A W B C D : Type 0} {u : suite.Ghosts A B C D} {p : permut
 
 -- A header call brings `more` bytes to `taken`.
 abbrev pub header_check : (taken more : ℕ) → Option (Refusal SessionFault)
-header_check taken more = if nat_lt header_most (taken + more) then Some (refusal Header 4 SessionLayer taken) else None
+header_check taken more =
+    if nat_lt header_most (taken + more) then Some (refusal Header 4 SessionLayer taken)
+    else None
 
--- A body call brings `more` bytes; with t the bytes held and brought it writes every whole block that at least one byte follows.
+-- A body call brings `more` bytes; with t the bytes held and brought it writes every whole block
+-- that at least one byte follows.
 abbrev pub writes : ℕ → ℕ
 writes t = 16 * ((t - 1) / 16)
 
@@ -74,7 +81,8 @@ given_of t = (writes t, t - writes t)
 abbrev pub held : Run → ℕ
 held R = length R.body - length R.out
 
--- A finish is refused where no body was taken, and an opening's where the tag has not sixteen bytes.
+-- A finish is refused where no body was taken, and an opening's where the tag has not sixteen
+-- bytes.
 abbrev pub sealing_check : Run → Option (Refusal SessionFault)
 sealing_check R = if length R.body == 0 then Some (refusal Empty 7 SessionLayer 0) else None
 

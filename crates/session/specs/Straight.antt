@@ -30,28 +30,36 @@ pub record Opened (f : Functions) (H C T o o' : List ℕ) : Type 0 where
 abbrev pub run : (key H a o' : List ℕ) → Run
 run key H a o' = record { key = key; header = H; body = a; out = take (writes (length a)) o' }
 
--- the session s stands at that run: its body call wrote those bytes over the front of o, and its finish is still to come
-pub record Begun {A W B C D : Type 0} {u : suite.Ghosts A B C D} {p : permutation.Ghosts B} {h : hash.Ghosts C} {d : digest.Ghosts D} {w : way.Ghosts W} (key H a o o' : List ℕ) (s : Session A W B C D u p h d w) (written : ℕ) : Type 0 where
+-- the session s stands at that run: its body call wrote those bytes over the front of o, and its
+-- finish is still to come
+pub record Begun {A W B C D : Type 0} {u : suite.Ghosts A B C D} {p : permutation.Ghosts B}
+    {h : hash.Ghosts C} {d : digest.Ghosts D} {w : way.Ghosts W} (key H a o o' : List ℕ)
+    (s : Session A W B C D u p h d w) (written : ℕ) : Type 0 where
   pub written_is : written ≡ writes (length a)
   pub rest : drop (writes (length a)) o' ≡ drop (writes (length a)) o
   pub at : SessionAt (run key H a o') s
 
 -- neither call is refused here
-abbrev pub BegunBy : {A W B C D : Type 0} {u : suite.Ghosts A B C D} {p : permutation.Ghosts B} {h : hash.Ghosts C} {d : digest.Ghosts D} {w : way.Ghosts W} → (key H a o o' : List ℕ) → Result (Session A W B C D u p h d w × ℕ) (Placed SessionFault) → Type 0
+abbrev pub BegunBy : {A W B C D : Type 0} {u : suite.Ghosts A B C D} {p : permutation.Ghosts B}
+    {h : hash.Ghosts C} {d : digest.Ghosts D} {w : way.Ghosts W} → (key H a o o' : List ℕ)
+    → Result (Session A W B C D u p h d w × ℕ) (Placed SessionFault) → Type 0
 BegunBy key H a o o' (Ok q) = Begun key H a o o' q.0 q.1
 BegunBy key H a o o' (Err e) = ⊥
 
 -- a sealing is never refused here
-abbrev pub SealRun : (f : Functions) (H M o o' t' : List ℕ) → Result (Unit {0}) (Placed SessionFault) → Type 0
+abbrev pub SealRun : (f : Functions) (H M o o' t' : List ℕ) → Result (Unit {0})
+    (Placed SessionFault) → Type 0
 SealRun f H M o o' t' (Ok v) = Sealed f H M o o' t'
 SealRun f H M o o' t' (Err e) = ⊥
 
 -- an opening is refused exactly if no message seals so
-pub record OpenRefusal (f : Functions) (H C T o o' : List ℕ) (e : Placed SessionFault) : Type 0 where
+pub record OpenRefusal (f : Functions) (H C T o o' : List ℕ)
+    (e : Placed SessionFault) : Type 0 where
   pub fault : IsRefusal session_faults (forged (length C)) e
   pub none : (M : List ℕ) → Seals f H M C T → ⊥
   pub rest : drop (writes (length C)) o' ≡ drop (writes (length C)) o
 
-abbrev pub OpenRun : (f : Functions) (H C T o o' : List ℕ) → Result (Unit {0}) (Placed SessionFault) → Type 0
+abbrev pub OpenRun : (f : Functions) (H C T o o' : List ℕ) → Result (Unit {0})
+    (Placed SessionFault) → Type 0
 OpenRun f H C T o o' (Ok v) = Opened f H C T o o'
 OpenRun f H C T o o' (Err e) = OpenRefusal f H C T o o' e

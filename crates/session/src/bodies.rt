@@ -1,4 +1,5 @@
-// A session whose body has started, one way or the other: its body call, and the finish of each way.
+// A session whose body has started, one way or the other: its body call, and the finish of each
+// way.
 ghost use Rattle.std.specs.Prelude.{◌≡◌, ◌+◌, ◌-◌, ◌≤◌, ◌↔◌, ℕ, List, ◌++◌, length, take, drop, replicate, IfErr, IfOk, IsOk, OnErr};
 ghost use Rattle.fault.specs.declared.kinds.SessionFault.{SessionFault};
 ghost use Rattle.fault.specs.Refusals.{IsRefusal, Refusal, RefusedBy, Refuses, session_faults};
@@ -20,13 +21,14 @@ use suite::Suite;
 
 impl<S: Suite, W: Way> Session<S, W> {
     /// Takes a stretch of the message, or of an opening's ciphertext, and writes to the front of
-    /// `out` every whole block that at least one more byte follows. Answers how many bytes it wrote,
-    /// and how many it holds back, 16 at most.
+    /// `out` every whole block that at least one more byte follows. Answers how many bytes it
+    /// wrote, and how many it holds back, 16 at most.
     ///
-    /// Refuses bytes that would bring the body past 1,048,576 (5) and an `out` that is too short for
-    /// what it would write (6), at the number of bytes taken before; then it alters nothing.
+    /// Refuses bytes that would bring the body past 1,048,576 (5) and an `out` that is too short
+    /// for what it would write (6), at the number of bytes taken before; then it alters nothing.
     //
-    // The pair has no names of its own: a caller who asks for one number only takes it by its place.
+    // The pair has no names of its own: a caller who asks for one number only takes it by its
+    // place.
     pub fn body(
         &mut self,
         input: &[u8],
@@ -120,8 +122,8 @@ impl<S: Suite> Sealing<S> {
 }
 
 impl<S: Suite> Opening<S> {
-    // The last row under a tag: the block that it gives, if the opening passes its tests. Both tests
-    // are made, and each to the end, so that the time tells nothing of where a forgery fails.
+    // The last row under a tag: the block that it gives, if the opening passes its tests. Both
+    // tests are made, and each to the end, so that the time tells nothing of where a forgery fails.
     fn verdict(&self, tag: &[u8; 16]) -> Option<[u8; 16]>
         ensures { (R : Run) → SessionAt R self.now
             → Tested (S.Suite.under R.key) R.header R.body tag.now

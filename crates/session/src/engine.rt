@@ -3,7 +3,7 @@
 // The contracts name the members of the suite: the type of a struct with no ghost field does not.
 ghost use Rattle.std.specs.Prelude.{◌≡◌, ℕ, ◌+◌, ◌*◌, ◌≤◌, List, ◌++◌, length, take, drop};
 ghost use Rattle.poet.specs.Functions.{Functions};
-ghost use Rattle.poet.specs.Rows.{size, zed};
+ghost use Rattle.poet.specs.Rows.{closing, length_mask};
 ghost use Rattle.poet.specs.Seal.{body_most};
 ghost use Rattle.session.specs.Directions.{picks};
 ghost use Rattle.session.specs.Engines.{EngineAt};
@@ -22,8 +22,8 @@ pub(crate) struct Engine<S: Suite> {
 }
 
 impl<S: Suite> Engine<S> {
-    // One row, of which the chaining hash of the block where blocks come in is known: the block that it gives, with both sequences one block
-    // on, and that hash for the next row.
+    // One row, of which the chaining hash of the block where blocks come in is known: the block
+    // that it gives, with both sequences one block on, and that hash for the next row.
     #[inline(always)]
     fn row<W: Way>(
         &self,
@@ -31,8 +31,13 @@ impl<S: Suite> Engine<S> {
         hashed: [u8; 16],
         block: [u8; 16],
     ) -> (Lanes, [u8; 16], [u8; 16])
-        ensures stepped { (f : Functions) (H : List ℕ) → EngineAt S.Permutation.Permutation S.ChainingHash.ChainingHash f H self.now → hashed ≡ f.chain lanes.taking → Stepped (picks W.Way.way f.enc f.dec) f.chain lanes block result.0 result.1 }
-        ensures hashed { (f : Functions) (H : List ℕ) → EngineAt S.Permutation.Permutation S.ChainingHash.ChainingHash f H self.now → result.2 ≡ f.chain result.0.taking }
+        ensures stepped { (f : Functions) (H : List ℕ)
+            → EngineAt S.Permutation.Permutation S.ChainingHash.ChainingHash f H self.now
+            → hashed ≡ f.chain lanes.taking
+            → Stepped (picks W.Way.way f.enc f.dec) f.chain lanes block result.0 result.1 }
+        ensures hashed { (f : Functions) (H : List ℕ)
+            → EngineAt S.Permutation.Permutation S.ChainingHash.ChainingHash f H self.now
+            → result.2 ≡ f.chain result.0.taking }
     {
         let taking = xor(block, hashed);
         let (giving, next, over) = W::ahead::<S>(
@@ -52,7 +57,9 @@ impl<S: Suite> Engine<S> {
         mask: [u8; 16],
         block: [u8; 16],
     ) -> (Lanes, [u8; 16])
-        ensures { (f : Functions) (H : List ℕ) → EngineAt S.Permutation.Permutation S.ChainingHash.ChainingHash f H self.now → Ended (picks W.Way.way f.enc f.dec) f.chain mask lanes block result.0 result.1 }
+        ensures { (f : Functions) (H : List ℕ)
+            → EngineAt S.Permutation.Permutation S.ChainingHash.ChainingHash f H self.now
+            → Ended (picks W.Way.way f.enc f.dec) f.chain mask lanes block result.0 result.1 }
     {
         let taking = xor(xor(block, mask), self.hash.hash(lanes.taking));
         let giving = W::pass(&self.permutation, taking);
@@ -60,8 +67,8 @@ impl<S: Suite> Engine<S> {
         (Lanes { taking, giving }, given)
     }
 
-    // n rows over the bytes held and the input behind them; what they give goes to the front of `out`, and the bytes that they leave are
-    // held, as many as there is room for.
+    // n rows over the bytes held and the input behind them; what they give goes to the front of
+    // `out`, and the bytes that they leave are held, as many as there is room for.
     pub(crate) fn run<W: Way>(
         &self,
         lanes: Lanes,
@@ -72,14 +79,16 @@ impl<S: Suite> Engine<S> {
     ) -> Lanes
         requires within { 16 * n ≤ length held.old + length input.now }
         requires room { 16 * n ≤ length out.old }
-        ensures ran { (f : Functions) (H : List ℕ) → EngineAt S.Permutation.Permutation S.ChainingHash.ChainingHash f H self.now → Ran (picks W.Way.way f.enc f.dec) f.chain lanes (held.old ++ input.now) out.old n result out.new }
+        ensures ran { (f : Functions) (H : List ℕ)
+            → EngineAt S.Permutation.Permutation S.ChainingHash.ChainingHash f H self.now
+            → Ran (picks W.Way.way f.enc f.dec) f.chain lanes (held.old ++ input.now) out.old n result out.new }
         ensures left { held.new ≡ take 16 (drop (16 * n) (held.old ++ input.now)) }
     {
         let mut lanes = lanes;
         let mut input = input;
         let mut hashed = self.hash.hash(lanes.taking);
-        // Indices and not chunks_exact_mut: after that a proof knows the length of `out`, and not its
-        // bytes.
+        // Indices and not chunks_exact_mut: after that a proof knows the length of `out`, and not
+        // its bytes.
         for i in 0..n {
             let more = 16 - held.as_slice().len();
             held.extend(input);
@@ -99,7 +108,9 @@ impl<S: Suite> Engine<S> {
     // S for a message of `len` bytes.
     pub(crate) fn mask(&self, len: usize) -> [u8; 16]
         requires { len ≤ body_most }
-        ensures { (key H : List ℕ) → EngineAt S.Permutation.Permutation S.ChainingHash.ChainingHash (S.Suite.under key) H self.now → result ≡ size (S.Suite.under key) len }
+        ensures { (key H : List ℕ)
+            → EngineAt S.Permutation.Permutation S.ChainingHash.ChainingHash (S.Suite.under key) H self.now
+            → result ≡ length_mask (S.Suite.under key) len }
     {
         // A cast, since there is no `From` of a `usize`.
         self.permutation.encrypt(S::encode(8 * len as u64))
@@ -107,7 +118,9 @@ impl<S: Suite> Engine<S> {
 
     // Z, from τ and the last X and Y.
     pub(crate) fn closing(&self, x: [u8; 16], y: [u8; 16]) -> [u8; 16]
-        ensures { (f : Functions) (H : List ℕ) → EngineAt S.Permutation.Permutation S.ChainingHash.ChainingHash f H self.now → result ≡ zed f (f.dig H) x y }
+        ensures { (f : Functions) (H : List ℕ)
+            → EngineAt S.Permutation.Permutation S.ChainingHash.ChainingHash f H self.now
+            → result ≡ closing f (f.dig H) x y }
     {
         let inner = self.permutation.encrypt(xor(self.hash.hash(x), self.tau));
         xor(xor(inner, self.hash.hash(y)), self.tau)

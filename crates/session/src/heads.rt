@@ -39,8 +39,8 @@ impl<S: Suite> Heading<S> {
         }
     }
 
-    /// Adds bytes to the header. Refuses bytes that would bring it past 65,536 (4), at the number of
-    /// bytes taken before; then the heading stays as it was.
+    /// Adds bytes to the header. Refuses bytes that would bring it past 65,536 (4), at the number
+    /// of bytes taken before; then the heading stays as it was.
     pub fn header(&mut self, p: &[u8]) -> Result<(), Placed<SessionFault>>
         ensures refused { (R : Run) → HeadingAt R self.old
             → RefusedBy session_faults (header_check (length R.header) (length p.now)) result }

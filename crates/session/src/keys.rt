@@ -19,8 +19,8 @@ impl KeyPlace {
         KeyPlace { bytes: [0; 16] }
     }
 
-    /// Puts a key in. Refuses one that has not sixteen bytes (3), at its length; then the place stays
-    /// as it was.
+    /// Puts a key in. Refuses one that has not sixteen bytes (3), at its length; then the place
+    /// stays as it was.
     pub fn fill(&mut self, key: &[u8]) -> Result<(), Placed<KeyFault>>
         ensures refused { RefusedBy key_faults (key_check key.now) result }
         ensures unaltered { OnErr result (self.new.bytes ≡ self.old.bytes) }

@@ -21,7 +21,8 @@ pub struct Played {
 
 impl Played {
     pub(crate) fn new(heap: Global) -> Played
-        ensures { (result.header.items ≡ []) × (result.body.items ≡ []) × (result.out.items ≡ []) × (result.answers.items ≡ []) }
+        ensures { (result.header.items ≡ []) × (result.body.items ≡ [])
+            × (result.out.items ≡ []) × (result.answers.items ≡ []) }
     {
         Played {
             header: Vec::new(heap),

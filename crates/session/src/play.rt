@@ -18,7 +18,8 @@ pub fn play<S: Suite>(
     headers: &[Stretch<'_>],
     course: Course<'_>,
 ) -> Result<(Played, End), AllocError>
-    ensures { IfOk result (λ p. CoursePlayed course.entry S.Suite.under place.now.bytes headers.now p.0 p.1) }
+    ensures { IfOk result (λ p. CoursePlayed course.entry
+        S.Suite.under place.now.bytes headers.now p.0 p.1) }
 {
     let mut log = Played::new(heap);
     let mut heading = Heading::<S>::new(place);

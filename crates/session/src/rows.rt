@@ -5,7 +5,8 @@ ghost use Rattle.session.specs.Steps.{lanes};
 
 use suite::{Permutation, Suite};
 
-// A way through the rows. It is public because the types of sessions name it, but this module is not: nothing outside implements it.
+// A way through the rows. It is public because the types of sessions name it, but this module is
+// not: nothing outside implements it.
 pub trait Way {
     ghost way: { Direction };
 
@@ -20,7 +21,8 @@ pub trait Way {
         x: [u8; 16],
         y: [u8; 16],
     ) -> ([u8; 16], [u8; 16], [u8; 16])
-        ensures first { result.0 ≡ picks way (S.Permutation.Permutation.enc p.now) (S.Permutation.Permutation.dec p.now) x }
+        ensures first { result.0 ≡ picks way
+            (S.Permutation.Permutation.enc p.now) (S.Permutation.Permutation.dec p.now) x }
         ensures second { result.1 ≡ S.ChainingHash.ChainingHash.chain h.now x }
         ensures third { result.2 ≡ S.ChainingHash.ChainingHash.chain h.now y };
 

@@ -9,7 +9,8 @@ use crate::types::{Heading, Session};
 use fault::kinds::{Placed, SessionFault};
 use suite::Suite;
 
-// The header and the body, of which neither is refused: the session before its finish, and how many bytes the body call wrote.
+// The header and the body, of which neither is refused: the session before its finish, and how many
+// bytes the body call wrote.
 fn begun<S: Suite, W: Way>(
     place: &KeyPlace,
     header: &[u8],
@@ -40,7 +41,8 @@ pub(crate) fn seal_straight<S: Suite>(
     requires some { 1 ≤ length message.now }
     requires most { length message.now ≤ body_most }
     requires room { length message.now ≤ length out.old }
-    ensures { SealRun (S.Suite.under place.now.bytes) header.now message.now out.old out.new tag.new result }
+    ensures { SealRun (S.Suite.under place.now.bytes)
+        header.now message.now out.old out.new tag.new result }
 {
     let (sealing, written) = begun::<S, Seal>(place, header, message, out)?;
     let mut last = [0; 16];
@@ -62,7 +64,8 @@ pub(crate) fn open_straight<S: Suite>(
     requires some { 1 ≤ length ciphertext.now }
     requires most { length ciphertext.now ≤ body_most }
     requires room { length ciphertext.now ≤ length out.old }
-    ensures { OpenRun (S.Suite.under place.now.bytes) header.now ciphertext.now tag.now out.old out.new result }
+    ensures { OpenRun (S.Suite.under place.now.bytes)
+        header.now ciphertext.now tag.now out.old out.new result }
 {
     let (opening, written) = begun::<S, Open>(place, header, ciphertext, out)?;
     let mut last = [0; 16];

@@ -1,5 +1,6 @@
-// The states of a session, each moved into the next. Their calls stand in `heads` and `bodies`: a struct with a ghost field draws in what the
-// contracts of its file name, and those of the calls name where a session stands, which names the struct.
+// The states of a session, each moved into the next. Their calls stand in `heads` and `bodies`: a
+// struct with a ghost field draws in what the contracts of its file name, and those of the calls
+// name where a session stands, which names the struct.
 ghost use Rattle.std.specs.Prelude.{◌≡◌, ◌+◌, ◌-◌, ◌*◌, ◌/◌, ◌≤◌, length};
 ghost use Rattle.poet.specs.Seal.{body_most, header_most};
 

@@ -1,5 +1,6 @@
-// Sealing and opening of whole buffers in one call. Each makes its own checks, and a refusal leaves every buffer as it was, but for a
-// forged message, which leaves zeros where the message would have stood.
+// Sealing and opening of whole buffers in one call. Each makes its own checks, and a refusal leaves
+// every buffer as it was, but for a forged message, which leaves zeros where the message would have
+// stood.
 ghost use Rattle.std.specs.Prelude.{◌≡◌, ◌≤◌, ◌↔◌, ℕ, List, ◌++◌, length, take, drop, replicate, IfErr, IfOk, IsOk, OnErr};
 ghost use Rattle.fault.specs.declared.kinds.SessionFault.{SessionFault};
 ghost use Rattle.fault.specs.Refusals.{IsRefusal, Refusal, RefusedBy, Refuses, session_faults};
@@ -12,15 +13,15 @@ use crate::straight::{open_straight, seal_straight};
 use fault::kinds::{Placed, SessionFault};
 use suite::Suite;
 
-/// Seals `message`, 1 to 1,048,576 bytes, under a `key` of sixteen bytes and a `header` of 65,536 at
-/// most: the ciphertext, as long as the message, goes to the front of `out`, and the tag to `tag`.
-/// Answers how many bytes it wrote to `out`.
+/// Seals `message`, 1 to 1,048,576 bytes, under a `key` of sixteen bytes and a `header` of 65,536
+/// at most: the ciphertext, as long as the message, goes to the front of `out`, and the tag to
+/// `tag`. Answers how many bytes it wrote to `out`.
 ///
-/// Refuses a key (3), header (4), body (5), room (6) or empty body (7) that fails, in this order, and
-/// then alters nothing. The place is 0, and a key's length for 3.
+/// Refuses a key (3), header (4), body (5), room (6) or empty body (7) that fails, in this order,
+/// and then alters nothing. The place is 0, and a key's length for 3.
 //
-// A parameter for each buffer: every one has a refusal of its own, and a struct of them would be made
-// for the call alone.
+// A parameter for each buffer: every one has a refusal of its own, and a struct of them would be
+// made for the call alone.
 pub fn seal<S: Suite>(
     key: &[u8],
     header: &[u8],
@@ -46,11 +47,12 @@ pub fn seal<S: Suite>(
     Ok(message.len())
 }
 
-/// Opens `ciphertext` under `key` and `header` if some message seals to it and to `tag`: that message
-/// goes to the front of `out`. Answers how many bytes it wrote.
+/// Opens `ciphertext` under `key` and `header` if some message seals to it and to `tag`: that
+/// message goes to the front of `out`. Answers how many bytes it wrote.
 ///
-/// Refuses as `seal` does, and then a tag that has not sixteen bytes (8), at 0, altering nothing; and
-/// a forgery (9), at the ciphertext's length: zeros stand then where the message would have stood.
+/// Refuses as `seal` does, and then a tag that has not sixteen bytes (8), at 0, altering nothing;
+/// and a forgery (9), at the ciphertext's length: zeros stand then where the message would have
+/// stood.
 pub fn open<S: Suite>(
     key: &[u8],
     header: &[u8],

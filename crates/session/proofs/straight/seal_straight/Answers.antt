@@ -1,5 +1,5 @@
-use Rattle.std.proofs.Common.{◌≡◌, Ok, arith}
-use Rattle.session.specs.Sessions.{held, sealing_check}
+use Rattle.std.proofs.Common.{Ok, arith}
+use Rattle.session.specs.Sessions.{sealing_check}
 use Rattle.session.specs.Straight.{run}
 use Rattle.session.proofs.ByChecks.{sealed_by}
 use Rattle.session.proofs.Calling.{seal_ok}

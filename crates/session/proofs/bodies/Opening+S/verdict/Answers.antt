@@ -1,5 +1,5 @@
 use Rattle.std.proofs.Common.{length, refl, ap, ◌∙◌, arith}
-use Rattle.poet.specs.Rows.{size}
+use Rattle.poet.specs.Rows.{length_mask}
 use Rattle.session.proofs.Endings.{tested}
 use Rattle.session.proofs.bodies.Opening+S.verdict.Goals as goal
 
@@ -10,7 +10,7 @@ returns g c =
     let k = a.total_is in
     let n = ap length c.as_slice-held.ensures.bytes in
     rw c.then_some.ensures
-    (tested f R.header R.body c.args.tag.now a.engine.tau_is (c.mask-mask.ensures R.key R.header a.engine ∙ ap (size f) k) a.x_is a.y_is (c.as_slice-held.ensures.bytes ∙ a.held_is)
+    (tested f R.header R.body c.args.tag.now a.engine.tau_is (c.mask-mask.ensures R.key R.header a.engine ∙ ap (length_mask f) k) a.x_is a.y_is (c.as_slice-held.ensures.bytes ∙ a.held_is)
     c.complete-block.ensures
     (c.last_row.ensures f R.header a.engine)
     (c.closing-z.ensures f R.header a.engine)

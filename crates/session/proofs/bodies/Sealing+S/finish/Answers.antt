@@ -1,6 +1,6 @@
 use Rattle.std.proofs.Common.{◌≡◌, ℕ, false, eqb, length, replicate, Ok, Err, refl, ap, ◌∙◌, arith, ne_eqb}
 use Rattle.fault.specs.declared.kinds.SessionFault.TheVariants.{Empty}
-use Rattle.poet.specs.Rows.{ends, size}
+use Rattle.poet.specs.Rows.{last_length, length_mask}
 use Rattle.session.specs.Runs.{Run}
 use Rattle.session.specs.Sessions.{SessionAt, sealing_check}
 use Rattle.session.proofs.ByChecks.{SealedBy, seal_end}
@@ -39,9 +39,9 @@ returns g c =
     let L = g.met.S.Suite.lawful R.key a.taken.key_block in
     let e : eqb (length R.body) 0 ≡ false = ne_eqb (length R.body) 0 (λ z. omega arith) in
     let n = ap length c.as_slice-held.ensures.bytes in
-    let le : len ≡ ends R.body = omega arith in
+    let le : len ≡ last_length R.body = omega arith in
     let p =
-    sealed f R.header R.body a.engine.tau_is (c.mask-mask.ensures R.key R.header a.engine ∙ ap (size f) k) a.x_is a.y_is (c.as_slice-held.ensures.bytes ∙ a.held_is) c.complete-block.ensures (c.last_row.ensures f R.header a.engine) (c.closing-z.ensures f R.header a.engine) refl
+    sealed f R.header R.body a.engine.tau_is (c.mask-mask.ensures R.key R.header a.engine ∙ ap (length_mask f) k) a.x_is a.y_is (c.as_slice-held.ensures.bytes ∙ a.held_is) c.complete-block.ensures (c.last_row.ensures f R.header a.engine) (c.closing-z.ensures f R.header a.engine) refl
     c.complete-2.ensures
     le
     (omega (arith, c.last_row.type_inv)) in
