@@ -29,7 +29,8 @@ abbrev pub shown : {A : Type 0} → (A → List ℕ) → Option A → List ℕ
 shown w None = 45 ∷ []
 shown w (Some a) = w a
 
--- code, parent, count, landing, months, yearly need and drawing, semicolons between them and a line feed at the end
+-- code, parent, count, landing, months, yearly need and drawing, semicolons between them and a line
+-- feed at the end
 abbrev pub line_of : Item → List ℕ
 line_of e = e.code
     ++ (59 ∷ (shown text e.parent
@@ -40,13 +41,16 @@ line_of e = e.code
     ++ (59 ∷ (shown text e.drawing
     ++ (10 ∷ [])))))))))))))
 
--- Writing the line of the entry e into the buffer `old` at a place; q is where the next would begin. Values are tested before room.
+-- Writing the line of the entry e into the buffer `old` at a place; q is where the next would
+-- begin.
+-- Values are tested before room.
 abbrev pub Lined : (old new : List ℕ) (at : ℕ) (e : Item) → Result ℕ (Placed SheetFault) → Type 0
 Lined old new at e r = WroteAs old new at e (line_of e) r
 
 -- the line of a good entry has at most 70 bytes, and its yearly need is the nearest whole number
 abbrev pub LineLaw : Type 0
-LineLaw = (e : Item) → Good e → (length (line_of e) ≤ 70) × Held (λ m. Nearest (12 * e.count) m (need e.count m)) e.months
+LineLaw = (e : Item) → Good e
+    → (length (line_of e) ≤ 70) × Held (λ m. Nearest (12 * e.count) m (need e.count m)) e.months
 
 -- only one number is the nearest
 abbrev pub NearestLaw : Type 0

@@ -51,15 +51,15 @@ impl Shown for i8 {
     }
 }
 
-// A number in decimal, the last digit last.
-// Kept: `write!` may fail, as far as its contract says, and the line of a good entry may not.
+// A number in decimal, the last digit last. By hand, since `write!` may fail, as far as its
+// contract says, and the line of a good entry may not.
 fn put_decimal(line: &mut Line, n: u32)
     ensures { line.new ≡ take 70 (line.old ++ decimal n) }
 {
     if n >= 10 {
         put_decimal(line, n / 10);
     }
-    // Kept: a digit fits, and `try_from` would add a refusal that cannot come.
+    // A digit fits; `try_from` would add a refusal that cannot come.
     line.extend(&[b'0' + (n % 10) as u8]);
 }
 

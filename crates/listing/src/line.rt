@@ -28,7 +28,10 @@ fn compose(e: Entry<&[u8]>) -> Line
     line
 }
 
-// Writes the line of an entry at a place, and answers where the next would begin.
+/// Writes the line of an entry at a place, and answers where the next would begin.
+///
+/// # Errors
+/// 13 if a value is outside its form, else 6 if there is no room; the buffer is then unaltered.
 pub fn line(e: Entry<&[u8]>, buf: &mut [u8], at: usize) -> Result<usize, Placed<SheetFault>>
     ensures text { Lined buf.old buf.new at (item_of e.entry) result }
     ensures law { LineLaw }

@@ -1,7 +1,8 @@
 // The yearly need of a part.
 ghost use Rattle.listing.specs.Lines.{NearestLaw, Needed};
 
-// How many pieces a year takes, to the nearest whole number and a half upwards, where `count` of them are changed every `months` months.
+/// How many pieces a year takes, to the nearest whole number and a half upwards, where `count` of
+/// them are changed every `months` months; `None` for 0 months.
 pub fn yearly_need(count: u16, months: u16) -> Option<u32>
     ensures { Needed count months result }
 {
@@ -12,7 +13,7 @@ pub fn yearly_need(count: u16, months: u16) -> Option<u32>
     Some((24 * u32::from(count) + months) / (2 * months))
 }
 
-// The theorem that only one whole number is the nearest.
+/// The theorem that only one whole number is the nearest.
 pub fn nearest_stands() -> u8
     ensures { NearestLaw }
 {

@@ -10,6 +10,8 @@ use Rattle.sheet.specs.Entries.{Item, Good, Held, two, one, text, counted, held,
 use Rattle.sheet.specs.Reading.{Read, got, fault, next, read_code, read_number, read_landing, read_drawing, read_held, read_map, item, read_fields, read_item}
 use Rattle.sheet.specs.Calls.{Follows, Holds, Broken}
 use Rattle.sheet.specs.Laws.{ReadingLaw, UniqueLaw}
+use Rattle.sheet.specs.Breaks.{RefusedAt}
+use Rattle.sheet.proofs.Breaking.{refusals}
 use Rattle.sheet.proofs.Fields.{Octets, octets_right, fault_got, got_same, next_inv, Lawful, code_lawful, count_lawful, months_lawful, landing_lawful, drawing_lawful, held_back, held_sound, map_back, map_flags, map_sound}
 
 pub bytes_on : (e : Item) (rest : List ℕ) → bytes e ++ rest ≡ two (item_map e) ++ (e.code ++ (held text e.parent ++ (two e.count ++ (held one e.landing ++ (held two e.months ++ (held counted e.drawing ++ rest))))))
@@ -136,27 +138,26 @@ pub record Sofar (s : List ℕ) (p n : ℕ) : Type 0 where
 pub start : (s : List ℕ) (p n : ℕ) → p ≡ 0 → n ≡ 0 → Sofar s p n
 start s p n e z = record { items = []; count = omega arith; good = tt; is = ap (λ (i : ℕ). drop i s) e; within = omega arith; few = omega arith }
 
-all_good_push : (es : List Item) (e : Item) → AllGood es → Good e → AllGood (es ++ e ∷ [])
+pub all_good_push : (es : List Item) (e : Item) → AllGood es → Good e → AllGood (es ++ e ∷ [])
 all_good_push [] e g h = (h, tt)
 all_good_push (d ∷ es) e g h = (g.0, all_good_push es e g.1 h)
 
-sheet_push : (es : List Item) (e : Item) (r : List ℕ) → sheet_of (es ++ e ∷ []) ++ r ≡ sheet_of es ++ (bytes e ++ r)
+pub sheet_push : (es : List Item) (e : Item) (r : List ℕ) → sheet_of (es ++ e ∷ []) ++ r ≡ sheet_of es ++ (bytes e ++ r)
 sheet_push [] e r = append_assoc (bytes e) [] r
 sheet_push (d ∷ es) e r = append_assoc (bytes d) (sheet_of (es ++ e ∷ [])) r ∙ ap (λ x. bytes d ++ x) (sheet_push es e r) ∙ sym (append_assoc (bytes d) (sheet_of es) (bytes e ++ r))
 
 -- one entry more, as a next call on the sheet t answers it
-pub on : (s t : List ℕ) (p q n : ℕ) (e : Item) → t ≡ s → Octets s → Sofar s p n → (read_item (drop p t) ≡ got e (drop q t)) × (p < length t) × (p < q) × (q ≤ length t) → Sofar s q (n + 1)
-on s t p q n e te o h a =
-    let r : read_item (drop p s) ≡ got e (drop q s) = subst (λ (x : List ℕ). read_item (drop p x) ≡ got e (drop q x)) te a.0 in
-    let g = sound (drop p s) e (drop q s) (All-drop (λ b. b < 256) p s o) r in
+pub on : (s t : List ℕ) (p q n : ℕ) (e : Item) → t ≡ s → Sofar s p n → Good e × (drop p t ≡ bytes e ++ drop q t) × (p < length t) × (p < q) × (q ≤ length t) → Sofar s q (n + 1)
+on s t p q n e te h a =
+    let b : drop p s ≡ bytes e ++ drop q s = subst (λ (x : List ℕ). drop p x ≡ bytes e ++ drop q x) te a.1 in
     let l = ap length te in
     record {
       items = h.items ++ e ∷ [];
       count = simp length_push (omega (arith, h.count));
-      good = all_good_push h.items e h.good g.0;
-      is = sheet_push h.items e (drop q s) ∙ ap (λ x. sheet_of h.items ++ x) (sym g.1) ∙ h.is;
-      within = omega (arith, a.3);
-      few = omega (arith, h.few, a.2);
+      good = all_good_push h.items e h.good a.0;
+      is = sheet_push h.items e (drop q s) ∙ ap (λ x. sheet_of h.items ++ x) (sym b) ∙ h.is;
+      within = omega (arith, a.4);
+      few = omega (arith, h.few, a.3);
     }
 
 -- the end, behind one entry or more
@@ -180,25 +181,29 @@ empty : (s : List ℕ) (p : ℕ) (es : List Item) → sheet_of es ++ drop p s �
 empty s p [] e z l = sym e ∙ drop_all p s l
 empty s p (d ∷ ds) e z l = absurd (omega arith)
 
+none_at : Octets []
+none_at k d h = absurd (omega arith)
+
 pub nothing : (s : List ℕ) (p n : ℕ) → Sofar s p n → length s ≤ p → n ≡ 0 → ((es : List Item) → Holds s es → ⊥) × Broken s (record { fault = Cut; place = 0 })
 nothing s p n h l z =
     let e : s ≡ [] = empty s p h.items h.is (omega (arith, h.count)) l in (
       λ fs g. some_made fs g.some (g.is ∙ e),
-      subst (λ (x : List ℕ). Broken x (record { fault = Cut; place = 0 })) (sym e) (record { before = []; good = tt; length_before = refl; is = refl; refused = refl }),
+      subst (λ (x : List ℕ). Broken x (record { fault = Cut; place = 0 })) (sym e) (record { before = []; good = tt; length_before = refl; is = refl; refused = (refusals 0 [] (record { fault = Cut; place = 0 }) none_at).0 (refl, refl) }),
     )
 
 -- a refusal, as a next call on the sheet t answers it
-pub refusal : (s t : List ℕ) (p n : ℕ) (f : Placed SheetFault) → t ≡ s → Sofar s p n → (read_item (drop p t) ≡ fault f.fault) × (p < length t) × (f.place ≡ p) → ((es : List Item) → Holds s es → ⊥) × Broken s f
-refusal s t p n f te h a =
+pub refusal : (s t : List ℕ) (p n : ℕ) (f : Placed SheetFault) → t ≡ s → Octets s → Sofar s p n → RefusedAt p (drop p t) f → p < length t → ((es : List Item) → Holds s es → ⊥) × Broken s f
+refusal s t p n f te o h a lt =
     let l = ap length te in
-    let r : read_item (drop p s) ≡ fault f.fault = subst (λ (x : List ℕ). read_item (drop p x) ≡ fault f.fault) te a.0 in
-    let at : f.place ≡ p = a.2 in (
-      λ fs g. refused (drop p s) f.fault (simp length-drop (omega (arith, a.1))) r (strip h.items fs (drop p s) h.good g.good (g.is ∙ sym h.is)),
+    let b : RefusedAt p (drop p s) f = subst (λ (x : List ℕ). RefusedAt p (drop p x) f) te a in
+    let is = (refusals p (drop p s) f (All-drop (λ x. x < 256) p s o)).1 b in
+    let at : f.place ≡ p = is.1 in (
+      λ fs g. refused (drop p s) f.fault (simp length-drop (omega arith)) is.0 (strip h.items fs (drop p s) h.good g.good (g.is ∙ sym h.is)),
       record {
         before = h.items;
         good = h.good;
         length_before = let l = ap length h.is in let a = length-append (sheet_of h.items) (drop p s) in let m = length-drop p s in omega (arith, h.within);
         is = ap (λ (i : ℕ). sheet_of h.items ++ drop i s) at ∙ h.is;
-        refused = ap (λ (i : ℕ). read_item (drop i s)) at ∙ r;
+        refused = subst (λ (i : ℕ). RefusedAt i (drop i s) f) (sym at) b;
       },
     )

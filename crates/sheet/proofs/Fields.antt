@@ -64,10 +64,10 @@ code_lawful k = record {
       ((f.0, ap (signs false) (sym g.0) ∙ c.0), f.1);
 }
 
-two_back : (n : ℕ) → n < 65536 → two_of (two n) ≡ n
+pub two_back : (n : ℕ) → n < 65536 → two_of (two n) ≡ n
 two_back n h = omega arith
 
-two_sound : (s : List ℕ) → length s ≡ 2 → Octets s → two (two_of s) ≡ s
+pub two_sound : (s : List ℕ) → length s ≡ 2 → Octets s → two (two_of s) ≡ s
 two_sound [] l o = absurd (omega arith)
 two_sound (a ∷ []) l o = absurd (omega arith)
 two_sound (a ∷ b ∷ []) l o =
@@ -78,7 +78,7 @@ two_sound (a ∷ b ∷ []) l o =
     ap (λ x. x ∷ ((a * 256 + b) % 256) ∷ []) p ∙ ap (λ x. a ∷ x ∷ []) q
 two_sound (a ∷ b ∷ c ∷ s) l o = absurd (omega arith)
 
-two_small : (s : List ℕ) → length s ≡ 2 → Octets s → two_of s < 65536
+pub two_small : (s : List ℕ) → length s ≡ 2 → Octets s → two_of s < 65536
 two_small [] l o = absurd (omega arith)
 two_small (a ∷ []) l o = absurd (omega arith)
 two_small (a ∷ b ∷ []) l o =
@@ -187,7 +187,7 @@ held_sound {X} {P} {w} {r} l true bs o rest h e =
     subst Q g.0 (s.0, s.1 ∙ ap (λ t. w i.0 ++ t) g.1, refl)
 
 -- the map
-abbrev judged : ℕ → List ℕ → Read ℕ
+abbrev pub judged : ℕ → List ℕ → Read ℕ
 judged m rest = check (all_below (known_at m) 16) UnknownBit (check (all_below (complete_at m) 16) Missing (got m rest))
 
 map_passes : (p l m d : Bool) (rest : List ℕ) → judged (map_of p l m d) rest ≡ got (map_of p l m d) rest

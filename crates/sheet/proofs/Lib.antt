@@ -1,8 +1,11 @@
 pub mod Maps
 pub mod Steps
 pub mod Fields
+pub mod Tests
 pub mod Values
+pub mod Breaking
 pub mod Ones
 pub mod Count
 pub mod Decoding
 pub mod Writes
+pub mod Lists

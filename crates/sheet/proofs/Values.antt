@@ -1,5 +1,5 @@
--- The tests of the forms, and what is put together when an entry is written.
-use Rattle.std.proofs.Common.{◌≡◌, ℕ, ◌+◌, ◌<◌, ◌≤◌, Bool, true, false, ◌&&◌, eqb, List, [], ◌++◌, length, take, drop, pos, Some, None, Ok, Err, Option, Result, sym, refl, ap, ◌∙◌, subst, inr, ⊎_elim, append_assoc, append-nil, arith, length-append, length-take-le, w32, SFits, Bor, true-eqb}
+-- The ends of a drawing, and what is put together when an entry is written.
+use Rattle.std.proofs.Common.{◌≡◌, ℕ, ◌+◌, ◌<◌, ◌≤◌, Bool, true, false, List, [], ◌++◌, length, take, drop, pos, Some, None, Ok, Err, Option, Result, sym, refl, ap, ◌∙◌, subst, inr, ⊎_elim, append_assoc, append-nil, arith, length-append, length-take-le, w32, SFits, Bor}
 use Rattle.std.proofs.str.Laws.{order}
 use Rattle.std.proofs.lemmas.List.{take-append-le, take_all}
 use Rattle.std.specs.Option.{option_map}
@@ -7,7 +7,7 @@ use Rattle.std.proofs.lemmas.Bool.Decides.{nat_tests}
 use Rattle.fault.specs.declared.kinds.SheetFault.{SheetFault}
 use Rattle.fault.specs.declared.kinds.Placed.{Placed}
 use Rattle.sheet.specs.Table.{row_of, in_row}
-use Rattle.sheet.specs.Entries.{signs, Item, Good, Held, CodeForm, NumberForm, LandingForm, DrawingForm, two, one, text, counted, held, item_map, bytes, code_test, held_test, good_test}
+use Rattle.sheet.specs.Entries.{Item, Good, Held, CodeForm, NumberForm, LandingForm, DrawingForm, two, one, text, counted, held, item_map, bytes}
 use Rattle.sheet.specs.Calls.{Put, WroteAs}
 
 pub short : (n : ℕ) → in_row 5 (pos n) ≡ true → n ≤ 32
@@ -21,37 +21,6 @@ long n h = by (in_row 5 (pos n)) refl
     by : (b : Bool) → in_row 5 (pos n) ≡ b → in_row 5 (pos n) ≡ false
     by true e = let m = short n e in absurd (h (record { sfits = grind (arith, nat_tests) }))
     by false e = e
-
-pub and_left : (a b : Bool) → (a && b) ≡ true → a ≡ true
-and_left true b e = refl
-and_left false b e = e
-
-pub and_right : (a b : Bool) → (a && b) ≡ true → b ≡ true
-and_right true b e = e
-and_right false b e = let z : ◌≡◌ {A = ℕ} 0 1 = cc in absurd (omega arith)
-
--- the test and the form rules
-code_form : (k : ℕ) (s : List ℕ) → code_test k s ≡ true → CodeForm k s
-code_form k s t = let w = (row_of k).width in (true-eqb (length s) w (sym (and_left (eqb (length s) w) (signs false s) t)), and_right (eqb (length s) w) (signs false s) t)
-
-held_form : {X : Type 0} {t : X → Bool} {P : X → Type 0} → ((a : X) → t a ≡ true → P a) → (o : Option X) → held_test t o ≡ true → Held P o
-held_form f None e = tt
-held_form f (Some a) e = f a e
-
-pub good_form : (e : Item) → good_test e ≡ true → Good e
-good_form e t =
-    let t1 = and_right (code_test 0 e.code) _ t in
-    let t2 = and_right (held_test (code_test 1) e.parent) _ t1 in
-    let t3 = and_right (in_row 2 (pos e.count)) _ t2 in
-    let t4 = and_right (held_test (in_row 3) e.landing) _ t3 in
-    record {
-      code = code_form 0 e.code (and_left (code_test 0 e.code) _ t);
-      parent = held_form (code_form 1) e.parent (and_left (held_test (code_test 1) e.parent) _ t1);
-      count = and_left (in_row 2 (pos e.count)) _ t2;
-      landing = held_form (λ z h. h) e.landing (and_left (held_test (in_row 3) e.landing) _ t3);
-      months = held_form (λ n h. h) e.months (and_left (held_test (λ n. in_row 4 (pos n)) e.months) _ t4);
-      drawing = held_form (λ s h. (and_left (in_row 5 (pos (length s))) (signs true s) h, and_right (in_row 5 (pos (length s))) (signs true s) h)) e.drawing (and_right (held_test (λ n. in_row 4 (pos n)) e.months) _ t4);
-    }
 
 -- how long the bytes of a good entry are
 held_length : {A : Type 0} {P : A → Type 0} (w : A → List ℕ) (k : ℕ) → ((a : A) → P a → length (w a) ≤ k) → (o : Option A) → Held P o → length (held w o) ≤ k
@@ -114,4 +83,4 @@ drawing_short o s e f =
 -- what the writing of an entry answers, from where its bytes were put
 pub wrote_as : (e : Item) (b c old new : List ℕ) (at : ℕ) (r : Result ℕ (Placed SheetFault)) → Good e → b ≡ c → Put old new at b r → WroteAs old new at e c r
 wrote_as e b c old new at (Ok q) g be p = (g, p.0 ∙ ap (λ (x : List ℕ). at + length x) be, p.1, p.2 ∙ ap (λ (x : List ℕ). take at old ++ (x ++ drop q old)) be)
-wrote_as e b c old new at (Err f) g be p = (p.0, p.1, inr (p.2, g, subst (λ (x : List ℕ). length old < at + length x) be p.3))
+wrote_as e b c old new at (Err f) g be p = (p.0, inr (p.1, g, subst (λ (x : List ℕ). length old < at + length x) be p.2))

@@ -1,8 +1,8 @@
 -- Write calls one after another.
-use Rattle.std.proofs.Common.{◌≡◌, ℕ, ◌+◌, ◌≤◌, List, [], ◌∷◌, ◌++◌, length, take, drop, sym, refl, ap, ◌∙◌, append_assoc, arith, length-append, length-drop, take-append-drop, length-take-le}
-use Rattle.std.proofs.lemmas.List.{take_at, drop_at, drop-drop}
-use Rattle.sheet.specs.Entries.{Item, bytes, sheet_of}
-use Rattle.sheet.specs.Laws.{Writes, Written, WritingLaw}
+use Rattle.std.proofs.Common.{◌≡◌, ℕ, ◌+◌, ◌≤◌, List, [], ◌∷◌, ◌++◌, length, take, drop, sym, refl, ap, ◌∙◌, append_assoc, append-nil, arith, length-append, length-drop, take-append-drop, length-take-le}
+use Rattle.std.proofs.lemmas.List.{take_at, take_all, drop_at, drop_all, drop-drop}
+use Rattle.sheet.specs.Entries.{Item, AllGood, bytes, sheet_of}
+use Rattle.sheet.specs.Laws.{Writes, Written, WrittenFromStart, SheetLaw, WritingLaw}
 
 -- a buffer after one write
 module _ (old b : List ℕ) (at q : ℕ) (le : at ≤ length old) (qe : q ≡ at + length b) (ql : q ≤ length old) where
@@ -81,3 +81,24 @@ can_write (e ∷ es) old new at end le w =
 
 pub writing : WritingLaw
 writing es old new at end le = (wrote es old new at end le, can_write es old new at end le)
+
+-- from the start of a buffer as long as the sheet, or of any other
+from_start : (es : List Item) (s : List ℕ) → WrittenFromStart es s → AllGood es × (s ≡ sheet_of es)
+from_start es s (old, new, end, w, e) =
+    let r = wrote es old new 0 end (omega arith) w in
+    (r.good, e ∙ ap (take end) r.new_is ∙ take_at (sheet_of es) (drop end old) end (omega (arith, r.end_is)))
+
+into_start : (es : List Item) (s : List ℕ) → AllGood es × (s ≡ sheet_of es) → WrittenFromStart es s
+into_start es s (g, e) =
+    let t = sheet_of es in
+    let end = length t in
+    let w : Written es t t 0 end = record {
+      good = g;
+      end_is = omega arith;
+      room = omega arith;
+      new_is = sym (append-nil t) ∙ ap (λ x. t ++ x) (sym (drop_all end t (omega arith)));
+    } in
+    (t, t, end, can_write es t t 0 end (omega arith) w, e ∙ sym (take_all end t (omega arith)))
+
+pub sheets : SheetLaw
+sheets es s = (from_start es s, into_start es s)

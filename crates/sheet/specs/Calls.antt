@@ -5,51 +5,82 @@ use Rattle.std.specs.Option.{option_map}
 use Rattle.fault.specs.declared.kinds.SheetFault.{SheetFault}
 use Rattle.fault.specs.declared.kinds.SheetFault.TheVariants.{Room, Value}
 use Rattle.fault.specs.declared.kinds.Placed.{Placed}
+use Rattle.fault.specs.declared.kinds.Layer.TheVariants.{Sheet as SheetLayer}
+use Rattle.fault.specs.Refusals.{Refusal, IsRefusal, refusal, sheet_faults}
 use Rattle.sheet.specs.declared.entry.Entry.{Entry}
 use Rattle.sheet.specs.declared.entry.Field.{Field}
 use Rattle.sheet.specs.declared.entry.Field.TheVariants.{Code, Parent, Count, Landing, Months, Drawing}
 use Rattle.sheet.specs.declared.entry.Kind.{Kind}
 use Rattle.sheet.specs.declared.entry.Kind.TheVariants as kind
 use Rattle.sheet.specs.Entries.{Item, Held, Good, AllGood, bytes, sheet_of, Lent, item_of}
-use Rattle.sheet.specs.Reading.{Read, got, fault, read_item}
+use Rattle.sheet.specs.Reading.{Read, got, fault}
+use Rattle.sheet.specs.Breaks.{RefusedAt}
 
--- Putting the bytes s into the buffer `old` at a place, if there is room; q is the place behind them.
+-- the refusals of the calls that write, at a place: a value is outside its form; there is no room
+abbrev pub bad_value : ℕ → Refusal SheetFault
+bad_value at = refusal Value 13 SheetLayer at
+
+abbrev pub no_room : ℕ → Refusal SheetFault
+no_room at = refusal Room 6 SheetLayer at
+
+-- Putting the bytes s into the buffer `old` at a place, if there is room; q is the place behind.
 abbrev pub Put : (old new : List ℕ) (at : ℕ) (s : List ℕ) → Result ℕ (Placed SheetFault) → Type 0
-Put old new at s (Ok q) = (q ≡ at + length s) × (q ≤ length old) × (new ≡ take at old ++ (s ++ drop q old))
-Put old new at s (Err f) = (new ≡ old) × (f.place ≡ at) × (f.fault ≡ Room) × (length old < at + length s)
+Put old new at s (Ok q) =
+    (q ≡ at + length s) × (q ≤ length old) × (new ≡ take at old ++ (s ++ drop q old))
+Put old new at s (Err f) =
+    (new ≡ old) × IsRefusal sheet_faults (no_room at) f × (length old < at + length s)
 
--- Writing the entry e as the bytes b into the buffer `old` at a place; q is where the next would begin. Values are tested before room.
-abbrev pub WroteAs : (old new : List ℕ) (at : ℕ) (e : Item) (b : List ℕ) → Result ℕ (Placed SheetFault) → Type 0
-WroteAs old new at e b (Ok q) = Good e × (q ≡ at + length b) × (q ≤ length old) × (new ≡ take at old ++ (b ++ drop q old))
-WroteAs old new at e b (Err f) = (new ≡ old) × (f.place ≡ at) × (((f.fault ≡ Value) × (Good e → ⊥)) ⊎ ((f.fault ≡ Room) × Good e × (length old < at + length b)))
+-- f is the refusal of writing the entry e as the bytes b at a place of a buffer with so much room.
+-- Values are tested before room.
+abbrev pub NotWritten : (room at : ℕ) (e : Item) (b : List ℕ) → Placed SheetFault → Type 0
+NotWritten room at e b f =
+    (IsRefusal sheet_faults (bad_value at) f × (Good e → ⊥))
+    ⊎ (IsRefusal sheet_faults (no_room at) f × Good e × (room < at + length b))
+
+-- Writing the entry e as the bytes b into the buffer `old` at a place; q is where the next would
+-- begin.
+abbrev pub WroteAs : (old new : List ℕ) (at : ℕ) (e : Item) (b : List ℕ)
+    → Result ℕ (Placed SheetFault) → Type 0
+WroteAs old new at e b (Ok q) =
+    Good e × (q ≡ at + length b) × (q ≤ length old) × (new ≡ take at old ++ (b ++ drop q old))
+WroteAs old new at e b (Err f) = (new ≡ old) × NotWritten (length old) at e b f
 
 -- as its bytes in a sheet
 abbrev pub Wrote : (old new : List ℕ) (at : ℕ) (e : Item) → Result ℕ (Placed SheetFault) → Type 0
 Wrote old new at e r = WroteAs old new at e (bytes e) r
 
--- What a function that reads from the front of some bytes answers: the value, and the bytes behind it.
+-- What a function that reads from the front of some bytes answers: the value, and the bytes behind.
 abbrev pub Told : {T X : Type 0} → (T → X) → Read X → Result (T × Bor (List ℕ)) SheetFault → Type 0
 Told f o (Ok x) = o ≡ got (f x.0) x.1.now
 Told f o (Err e) = o ≡ fault e
 
--- The same of a field that is read only if its bit stands, where P says what the reading of such a field may answer.
-abbrev pub HeldOr : {T : Type 0} → Bool → Bor (List ℕ) → (Result (T × Bor (List ℕ)) SheetFault → Type 0) → Result (Option T × Bor (List ℕ)) SheetFault → Type 0
+-- The same of a field that is read only if its bit stands, where P says what the reading of such a
+-- field may answer.
+abbrev pub HeldOr : {T : Type 0} → Bool → Bor (List ℕ)
+    → (Result (T × Bor (List ℕ)) SheetFault → Type 0)
+    → Result (Option T × Bor (List ℕ)) SheetFault → Type 0
 HeldOr false b P r = r ≡ Ok (None, b)
 HeldOr true b P (Ok (None, rest)) = ⊥
 HeldOr true b P (Ok (Some a, rest)) = P (Ok (a, rest))
 HeldOr true b P (Err e) = P (Err e)
 
-pub record HeldTold {T : Type 0} (on : Bool) (b : Bor (List ℕ)) (P : Result (T × Bor (List ℕ)) SheetFault → Type 0) (r : Result (Option T × Bor (List ℕ)) SheetFault) : Type 0 where
+pub record HeldTold {T : Type 0} (on : Bool) (b : Bor (List ℕ))
+    (P : Result (T × Bor (List ℕ)) SheetFault → Type 0)
+    (r : Result (Option T × Bor (List ℕ)) SheetFault) : Type 0 where
   pub told : HeldOr on b P r
 
--- The next call of a reader at place p of the sheet s, which is at place q after it: the end exactly at the sheet's end, or the entry that
--- stands at p, or the refusal of what stands there, which leaves the place.
+-- The next call of a reader at place p of the sheet s, which is at place q after it: the end
+-- exactly at the sheet's end, or the entry that stands at p, or the refusal of what stands there,
+-- which leaves the place.
 abbrev pub Answered : (s : List ℕ) (p q : ℕ) → Result (Option Lent) (Placed SheetFault) → Type 0
 Answered s p q (Ok None) = (p ≡ length s) × (q ≡ p)
-Answered s p q (Ok (Some e)) = (read_item (drop p s) ≡ got (item_of e) (drop q s)) × (p < length s) × (p < q) × (q ≤ length s)
-Answered s p q (Err f) = (read_item (drop p s) ≡ fault f.fault) × (p < length s) × (f.place ≡ p) × (q ≡ p)
+Answered s p q (Ok (Some e)) =
+    Good (item_of e) × (drop p s ≡ bytes (item_of e) ++ drop q s)
+    × (p < length s) × (p < q) × (q ≤ length s)
+Answered s p q (Err f) = RefusedAt p (drop p s) f × (p < length s) × (q ≡ p)
 
--- s is the part of a sheet from a place on; b is where the sheet stands in memory, a block and an offset in it
+-- s is the part of a sheet from a place on; b is where the sheet stands in memory, a block and an
+-- offset in it
 abbrev pub Lies : (b : ℕ × ℕ) (n : ℕ) → Bor (List ℕ) → Type 0
 Lies b n s = s.ref_ptr ≡ (b.0, b.1 + n)
 
@@ -65,13 +96,15 @@ pub record InPlace (b : ℕ × ℕ) (p q : ℕ) (e : Lent) : Type 0 where
   pub parent : Held (Lies b (p + 10)) e.parent
   pub drawing : Held (λ s. Lies b (q - length s.now) s) e.drawing
 
-abbrev pub AnsweredInPlace : (b : ℕ × ℕ) (p q : ℕ) → Result (Option Lent) (Placed SheetFault) → Type 0
+abbrev pub AnsweredInPlace : (b : ℕ × ℕ) (p q : ℕ)
+    → Result (Option Lent) (Placed SheetFault) → Type 0
 AnsweredInPlace b p q (Ok None) = Unit {0}
 AnsweredInPlace b p q (Ok (Some e)) = InPlace b p q e
 AnsweredInPlace b p q (Err f) = Unit {0}
 
 -- Where good entries follow, the first of them is answered, and the others follow then.
-abbrev pub Follows : (s : List ℕ) (q : ℕ) → List Item → Result (Option Lent) (Placed SheetFault) → Type 0
+abbrev pub Follows : (s : List ℕ) (q : ℕ) → List Item
+    → Result (Option Lent) (Placed SheetFault) → Type 0
 Follows s q [] (Ok None) = drop q s ≡ []
 Follows s q [] (Ok (Some x)) = ⊥
 Follows s q (e ∷ es) (Ok None) = ⊥
@@ -109,9 +142,10 @@ pub record Broken (s : List ℕ) (f : Placed SheetFault) : Type 0 where
   pub good : AllGood before
   pub length_before : length (sheet_of before) ≡ f.place
   pub is : sheet_of before ++ drop f.place s ≡ s
-  pub refused : read_item (drop f.place s) ≡ fault f.fault
+  pub refused : RefusedAt f.place (drop f.place s) f
 
--- The test of a whole sheet: accepted exactly if it holds a list of entries; answers how many they are.
+-- The test of a whole sheet: accepted exactly if it holds a list of entries, of which it answers
+-- the number.
 abbrev pub Tested : List ℕ → Result ℕ (Placed SheetFault) → Type 0
 Tested s (Ok n) = (es : List Item) × Holds s es × (n ≡ length es)
 Tested s (Err f) = ((es : List Item) → Holds s es → ⊥) × Broken s f

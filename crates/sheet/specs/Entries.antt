@@ -1,4 +1,5 @@
--- What an entry says, the forms of its fields, and its bytes; a sheet is the bytes of its entries, end to end.
+-- What an entry says, the forms of its fields, and its bytes; a sheet is the bytes of its entries,
+-- end to end.
 use Rattle.std.specs.Prelude.{◌≡◌, ℕ, ◌+◌, ◌/◌, ◌%◌, Bool, true, false, cond, ◌&&◌, ◌||◌, List, [], ◌∷◌, ◌++◌, length, ℤ, pos, is_some, Some, None, Option, ◌==◌, nat_le}
 use Rattle.std.proofs.Common.{of_z}
 use Rattle.std.specs.Int.{w8}
@@ -54,7 +55,8 @@ abbrev pub AllGood : List Item → Type 0
 AllGood [] = Unit {0}
 AllGood (e ∷ es) = Good e × AllGood es
 
--- the bytes of each kind of field: a number in two bytes, big-endian; a landing in one, two's complement; text as it is; a drawing behind its length
+-- the bytes of each kind of field: a number in two bytes, big-endian; a landing in one, two's
+-- complement; text as it is; a drawing behind its length
 abbrev pub two : ℕ → List ℕ
 two n = (n / 256 % 256) ∷ (n % 256) ∷ []
 
@@ -80,7 +82,14 @@ item_map e = map_of (is_some e.parent) (is_some e.landing) (is_some e.months) (i
 
 -- an entry is its map, and then its fields in the order of the table
 abbrev pub bytes : Item → List ℕ
-bytes e = two (item_map e) ++ (e.code ++ (held text e.parent ++ (two e.count ++ (held one e.landing ++ (held two e.months ++ held counted e.drawing)))))
+bytes e =
+    two (item_map e)
+    ++ (e.code
+    ++ (held text e.parent
+    ++ (two e.count
+    ++ (held one e.landing
+    ++ (held two e.months
+    ++ held counted e.drawing)))))
 
 abbrev pub sheet_of : List Item → List ℕ
 sheet_of [] = []
@@ -88,11 +97,20 @@ sheet_of (e ∷ es) = bytes e ++ sheet_of es
 
 -- how many fields it has
 abbrev pub field_count : Item → ℕ
-field_count e = 2 + cond (is_some e.parent) 1 0 + cond (is_some e.landing) 1 0 + cond (is_some e.months) 1 0 + cond (is_some e.drawing) 1 0
+field_count e =
+    2 + cond (is_some e.parent) 1 0 + cond (is_some e.landing) 1 0
+    + cond (is_some e.months) 1 0 + cond (is_some e.drawing) 1 0
 
 -- the entry that the code holds, where t is what a text says
 abbrev pub item_by : {T : Type 0} → (T → List ℕ) → Entry T → Item
-item_by t e = record { code = t e.code; parent = option_map t e.parent; count = e.count; landing = e.landing; months = e.months; drawing = option_map t e.drawing }
+item_by t e = record {
+  code = t e.code;
+  parent = option_map t e.parent;
+  count = e.count;
+  landing = e.landing;
+  months = e.months;
+  drawing = option_map t e.drawing;
+}
 
 -- an entry of lent texts, and what it says
 abbrev pub Lent : Type 0
@@ -100,17 +118,3 @@ Lent = Entry (Bor (List ℕ))
 
 abbrev pub item_of : Lent → Item
 item_of e = item_by (λ s. s.now) e
-
--- the forms as tests
-abbrev pub code_test : ℕ → List ℕ → Bool
-code_test k s = length s == (row_of k).width && signs false s
-
-abbrev pub drawing_test : List ℕ → Bool
-drawing_test s = in_row 5 (pos (length s)) && signs true s
-
-abbrev pub held_test : {X : Type 0} → (X → Bool) → Option X → Bool
-held_test t None = true
-held_test t (Some a) = t a
-
-abbrev pub good_test : Item → Bool
-good_test e = code_test 0 e.code && (held_test (code_test 1) e.parent && (in_row 2 (pos e.count) && (held_test (in_row 3) e.landing && (held_test (λ n. in_row 4 (pos n)) e.months && held_test drawing_test e.drawing))))

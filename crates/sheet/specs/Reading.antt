@@ -1,5 +1,6 @@
--- Reading one entry from the front of some bytes: what it says and the bytes behind it, or the first rule that is broken.
--- Laws.antt states that an entry is read exactly where its bytes stand.
+-- Reading one entry from the front of some bytes: what it says and the bytes behind it, or a fault.
+-- `Laws` states that an entry is read exactly where its bytes stand, and that the fault is that of
+-- the rule which is broken first, as `Breaks` has it.
 use Rattle.std.specs.Prelude.{ℕ, ◌+◌, ◌*◌, Bool, true, false, List, length, take, drop, ℤ, pos, Some, None, Option, nat_le, slice_index}
 use Rattle.std.proofs.Common.{to_z}
 use Rattle.std.specs.Int.{w8}
@@ -31,16 +32,25 @@ two_of s = slice_index s 0 * 256 + slice_index s 1
 
 -- each field: cut short before outside its form; the length of a drawing is judged before its bytes
 abbrev pub read_code : ℕ → List ℕ → Read (List ℕ)
-read_code k bs = next (some (row_of k).width bs) (λ s rest. check (signs false s) Value (got s rest))
+read_code k bs =
+    next (some (row_of k).width bs) (λ s rest. check (signs false s) Value (got s rest))
 
 abbrev pub read_number : ℕ → List ℕ → Read ℕ
-read_number k bs = next (some (row_of k).width bs) (λ s rest. check (in_row k (pos (two_of s))) Value (got (two_of s) rest))
+read_number k bs =
+    next (some (row_of k).width bs)
+    (λ s rest. check (in_row k (pos (two_of s))) Value (got (two_of s) rest))
 
 abbrev pub read_landing : List ℕ → Read ℤ
-read_landing bs = next (some (row_of 3).width bs) (λ s rest. check (in_row 3 (to_z w8 (slice_index s 0))) Value (got (to_z w8 (slice_index s 0)) rest))
+read_landing bs =
+    next (some (row_of 3).width bs)
+    (λ s rest. let z = to_z w8 (slice_index s 0) in check (in_row 3 z) Value (got z rest))
 
 abbrev pub read_drawing : List ℕ → Read (List ℕ)
-read_drawing bs = next (some (row_of 5).width bs) (λ s rest. check (in_row 5 (pos (slice_index s 0))) Value (next (some (slice_index s 0) rest) (λ t after. check (signs true t) Value (got t after))))
+read_drawing bs =
+    next (some (row_of 5).width bs)
+    (λ s rest.
+    check (in_row 5 (pos (slice_index s 0))) Value
+    (next (some (slice_index s 0) rest) (λ t after. check (signs true t) Value (got t after))))
 
 -- a field that is read only if its bit stands
 abbrev pub read_held : {X : Type 0} → (List ℕ → Read X) → Bool → List ℕ → Read (Option X)
@@ -49,7 +59,11 @@ read_held p true bs = next (p bs) (λ a rest. got (Some a) rest)
 
 -- the map: cut short, then a bit that may not stand, then one that is missing
 abbrev pub read_map : List ℕ → Read ℕ
-read_map bs = next (some 2 bs) (λ s rest. check (all_below (known_at (two_of s)) 16) UnknownBit (check (all_below (complete_at (two_of s)) 16) Missing (got (two_of s) rest)))
+read_map bs =
+    next (some 2 bs)
+    (λ s rest.
+    check (all_below (known_at (two_of s)) 16) UnknownBit
+    (check (all_below (complete_at (two_of s)) 16) Missing (got (two_of s) rest)))
 
 abbrev pub item : List ℕ → Option (List ℕ) → ℕ → Option ℤ → Option ℕ → Option (List ℕ) → Item
 item c p n l m d = record { code = c; parent = p; count = n; landing = l; months = m; drawing = d }

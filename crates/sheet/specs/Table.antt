@@ -10,8 +10,9 @@ use Rattle.sheet.specs.declared.table.Need.TheVariants.{Required, Allowed, Unkno
 abbrev unknown : Row
 unknown = record { width = 0; low = pos 0; high = pos 0; need = Unknown }
 
--- Bits 0 to 5: code, parent's code, count, landing, months between changes, drawing. The width is in bytes, and a drawing's is that of its
--- length; the ends are those of the number that stands there, and a code has none.
+-- Bits 0 to 5: code, parent's code, count, landing, months between changes, drawing. The width is
+-- in bytes, and a drawing's is that of its length; the ends are those of the number that stands
+-- there, and a code has none.
 abbrev pub rows : List Row
 rows = record { width = 8; low = pos 0; high = pos 0; need = Required }
     ∷ record { width = 8; low = pos 0; high = pos 0; need = Allowed }
@@ -19,7 +20,8 @@ rows = record { width = 8; low = pos 0; high = pos 0; need = Required }
     ∷ record { width = 1; low = negsuc 4; high = pos 40; need = Allowed }
     ∷ record { width = 2; low = pos 1; high = pos 600; need = Allowed }
     ∷ record { width = 1; low = pos 1; high = pos 32; need = Allowed }
-    ∷ unknown ∷ unknown ∷ unknown ∷ unknown ∷ unknown ∷ unknown ∷ unknown ∷ unknown ∷ unknown ∷ unknown ∷ []
+    ∷ unknown ∷ unknown ∷ unknown ∷ unknown ∷ unknown
+    ∷ unknown ∷ unknown ∷ unknown ∷ unknown ∷ unknown ∷ []
 
 unfoldable pub row_of : ℕ → Row
 row_of k = slice_index_or rows k unknown

@@ -1,7 +1,8 @@
 // The tests of an entry's values.
-ghost use Rattle.std.specs.Prelude.{◌≡◌};
+ghost use Rattle.std.specs.Prelude.{◌≡◌, ◌↔◌, IsTrue};
 ghost use Rattle.sheet.specs.Table.{bit_of};
-ghost use Rattle.sheet.specs.Entries.{code_test, drawing_test, good_test, item_of, sign, signs};
+ghost use Rattle.sheet.specs.Entries.{Good, item_of, sign, signs};
+ghost use Rattle.sheet.specs.Tests.{code_test, drawing_test};
 
 use crate::entry::{Entry, Kind};
 
@@ -12,7 +13,7 @@ fn is_sign(slash: bool, b: u8) -> bool
     b.is_ascii_uppercase() || b.is_ascii_digit() || (slash && b == b'/')
 }
 
-// Kept: a rule of the project asks for a loop over the elements here.
+// Whether each byte is such a sign; the loop ends at the first that is none.
 pub(crate) fn are_signs(slash: bool, part: &[u8]) -> bool
     ensures { result ≡ signs slash part.now }
 {
@@ -40,9 +41,9 @@ fn drawing_ok(s: &[u8]) -> bool
     }
 }
 
-// Whether every field has its form.
+/// Whether every field has its form.
 pub fn is_good(e: Entry<&[u8]>) -> bool
-    ensures { result ≡ good_test (item_of e.entry) }
+    ensures { IsTrue result ↔ Good (item_of e.entry) }
 {
     code_ok(Kind::Code, e.code)
         && e.parent.is_none_or(|s| code_ok(Kind::Parent, s))

@@ -6,7 +6,7 @@ ghost use Rattle.sheet.specs.Entries.{item_map, item_of};
 use crate::entry::{Entry, Kind};
 use crate::table::{Need, row_at};
 
-// Whether bit k of the map stands. Kept by number, as ten of the sixteen bits are of no kind.
+// Whether bit k of the map stands: by number, as ten of the sixteen bits are of no kind.
 fn stands(map: u16, k: usize) -> bool
     requires { k < 16 }
     ensures { result ≡ Stands map k }

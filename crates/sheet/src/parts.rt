@@ -13,11 +13,12 @@ use fault::kinds::SheetFault;
 // What was read, and the bytes behind it.
 type Read<'a, T> = Result<(T, &'a [u8]), SheetFault>;
 
-// The first n bytes.
-// Kept: the library's `split_at_checked` does not say where its parts stand in memory.
+// The first n bytes. By hand, since the library's `split_at_checked` does not say where its parts
+// stand in memory.
 fn front(bytes: &[u8], n: usize) -> Read<'_, &[u8]>
     ensures told { Told (λ s. s.now) (some n bytes.now) result }
-    ensures long { IfOk result (λ x. (length x.0.now ≡ n) × (length x.1.now + n ≡ length bytes.now)) }
+    ensures long { IfOk result (λ x. (length x.0.now ≡ n) ×
+        (length x.1.now + n ≡ length bytes.now)) }
     ensures lies { IfOk result (λ x. (x.0.ref_ptr ≡ bytes.entry.ref_ptr) × Ends bytes.entry x.1) }
 {
     if bytes.len() < n {
@@ -28,7 +29,8 @@ fn front(bytes: &[u8], n: usize) -> Read<'_, &[u8]>
 
 fn read_code(kind: Kind, bytes: &[u8]) -> Read<'_, &[u8]>
     ensures told { Told (λ s. s.now) (read_code (bit_of kind) bytes.now) result }
-    ensures long { IfOk result (λ x. length x.1.now + (row_of (bit_of kind)).width ≡ length bytes.now) }
+    ensures long { IfOk result (λ x.
+        length x.1.now + (row_of (bit_of kind)).width ≡ length bytes.now) }
     ensures lies { IfOk result (λ x. (x.0.ref_ptr ≡ bytes.entry.ref_ptr) × Ends bytes.entry x.1) }
 {
     let (code, rest) = front(bytes, kind.row().width)?;
@@ -68,7 +70,9 @@ fn read_landing(bytes: &[u8]) -> Read<'_, i8>
 fn read_drawing(bytes: &[u8]) -> Read<'_, &[u8]>
     ensures told { Told (λ s. s.now) (read_drawing bytes.now) result }
     ensures long { IfOk result (λ x. length x.1.now + length x.0.now ≤ length bytes.now) }
-    ensures lies { IfOk result (λ x. Lies bytes.entry.ref_ptr (length bytes.now - length x.1.now - length x.0.now) x.0 × Ends bytes.entry x.1) }
+    ensures lies { IfOk result (λ x.
+        Lies bytes.entry.ref_ptr (length bytes.now - length x.1.now - length x.0.now) x.0
+        × Ends bytes.entry x.1) }
 {
     let (head, rest) = front(bytes, Kind::Drawing.row().width)?;
     let n = head[0];
@@ -119,7 +123,9 @@ fn read_map(bytes: &[u8]) -> Read<'_, u16>
 #[tactic(auto, unfolding(crate::specs::Table::row_of))]
 pub(crate) fn read_entry(bytes: &[u8]) -> Read<'_, Entry<&[u8]>>
     ensures told { Told item_of (read_item bytes.now) result }
-    ensures lies { IfOk result (λ x. Ends bytes.entry x.1 × (length x.1.now < length bytes.now) × ((m : ℕ × ℕ) (n : ℕ) → Lies m n bytes.entry → InPlace m n (n + (length bytes.now - length x.1.now)) x.0)) }
+    ensures lies { IfOk result (λ x. Ends bytes.entry x.1 × (length x.1.now < length bytes.now)
+        × ((m : ℕ × ℕ) (n : ℕ) → Lies m n bytes.entry
+        → InPlace m n (n + (length bytes.now - length x.1.now)) x.0)) }
 {
     let (map, rest) = read_map(bytes)?;
     let (code, rest) = read_code(Kind::Code, rest)?;

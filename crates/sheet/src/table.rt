@@ -83,7 +83,7 @@ const ROWS: [Row; 16] = [
     UNKNOWN,
 ];
 
-// The row of a bit. Kept by number: ten of the sixteen bits are of no kind.
+// The row of a bit: by number, as ten of the sixteen bits are of no kind.
 #[tactic(auto, unfolding(crate::specs::Table::row_of))]
 pub(crate) fn row_at(k: usize) -> Row
     requires { k < 16 }

@@ -1,11 +1,14 @@
 // The test of a whole sheet.
 ghost use Rattle.sheet.specs.Calls.{Tested};
-ghost use Rattle.sheet.specs.Laws.{ReadingLaw, UniqueLaw};
+ghost use Rattle.sheet.specs.Laws.{FirstLaw, ReadingLaw, RefusalLaw, UniqueLaw};
 
 use crate::reader::Reader;
 use fault::kinds::{Placed, SheetFault};
 
-// Tests every entry and answers how many there are. A sheet has one at least.
+/// Tests every entry and answers how many there are. A sheet has one at least.
+///
+/// # Errors
+/// The refusal, 10 to 13, of the first entry that cannot be read; 10 at place 0 if there is none.
 pub fn test(sheet: &[u8]) -> Result<usize, Placed<SheetFault>>
     ensures { Tested sheet.now result }
 {
@@ -23,9 +26,13 @@ pub fn test(sheet: &[u8]) -> Result<usize, Placed<SheetFault>>
     Ok(count)
 }
 
-// An entry is read exactly where its bytes stand, and no two lists of entries have the same sheet.
+/// An entry is read exactly where its bytes stand; where none is read, the refusal is the one rule
+/// that is broken first; and no two lists of entries have the same sheet.
 pub fn reading_stands() -> u8
-    ensures { ReadingLaw × UniqueLaw }
+    ensures reads { ReadingLaw }
+    ensures refuses { RefusalLaw }
+    ensures first { FirstLaw }
+    ensures unique { UniqueLaw }
 {
     0
 }

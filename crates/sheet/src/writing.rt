@@ -1,9 +1,9 @@
 // Writes entries into a buffer.
-ghost use Rattle.std.specs.Prelude.{◌≡◌};
+ghost use Rattle.std.specs.Prelude.{◌≡◌, ◌+◌, ◌≤◌, ◌++◌, length, map, take, drop, IfOk};
 ghost use Rattle.sheet.specs.Table.{standing};
 ghost use Rattle.sheet.specs.Entries.{Good, bytes, field_count, item_map, item_of};
 ghost use Rattle.sheet.specs.Calls.{Put, Wrote};
-ghost use Rattle.sheet.specs.Laws.{WritingLaw};
+ghost use Rattle.sheet.specs.Laws.{Measured, SheetLaw, WritingLaw, WroteAll, WrittenFromStart};
 
 use crate::entry::Entry;
 use crate::forms::is_good;
@@ -30,15 +30,18 @@ fn encode(e: Entry<&[u8]>) -> Buffer<56>
         out.extend(&months.to_be_bytes());
     }
     if let Some(drawing) = e.drawing {
-        // Kept: a drawing of good form has at most 32 bytes, and `try_from` would add a refusal that cannot come.
+        // A drawing of good form has at most 32 bytes; `try_from` would add a refusal that cannot
+        // come.
         out.extend(&[drawing.len() as u8]);
         out.extend(drawing);
     }
     out
 }
 
-// Puts bytes at a place of the buffer, if there is room, and answers the place behind them.
-// Kept a buffer and a place, here and in `write`: a rule of the project gives the calls this form.
+/// Puts bytes at a place of the buffer, and answers the place behind them.
+///
+/// # Errors
+/// 6 where there is no room; the buffer is then unaltered.
 pub fn put(s: &[u8], buf: &mut [u8], at: usize) -> Result<usize, Placed<SheetFault>>
     ensures { Put buf.old buf.new at s.now result }
 {
@@ -53,7 +56,10 @@ pub fn put(s: &[u8], buf: &mut [u8], at: usize) -> Result<usize, Placed<SheetFau
     Ok(end)
 }
 
-// Writes one entry at a place of the buffer, and answers the place where the next would begin.
+/// Writes one entry at a place of the buffer, and answers the place where the next would begin.
+///
+/// # Errors
+/// 13 if a value is outside its form, else 6 if there is no room; the buffer is then unaltered.
 pub fn write(e: Entry<&[u8]>, buf: &mut [u8], at: usize) -> Result<usize, Placed<SheetFault>>
     ensures { Wrote buf.old buf.new at (item_of e.entry) result }
 {
@@ -67,7 +73,7 @@ pub fn write(e: Entry<&[u8]>, buf: &mut [u8], at: usize) -> Result<usize, Placed
     put(out.as_slice(), buf, at)
 }
 
-// How many fields an entry has: as many as bits stand in its map.
+/// How many fields an entry has: as many as bits stand in its map.
 pub fn fields(e: Entry<&[u8]>) -> u32
     ensures bits { result ≡ standing (item_map (item_of e.entry)) 16 }
     ensures fields { result ≡ field_count (item_of e.entry) }
@@ -75,9 +81,68 @@ pub fn fields(e: Entry<&[u8]>) -> u32
     map_of(e).count_ones()
 }
 
-// A list written end to end leaves its sheet in the buffer, and can be written exactly if it is good and has room.
+// Where a list of entries ends that begins at 0, if it is good and has so much room.
+fn measure(entries: &[Entry<&[u8]>], room: usize) -> Result<usize, Placed<SheetFault>>
+    ensures { Measured (map item_of entries.now) room result }
+{
+    let mut at = 0;
+    for e in entries {
+        if !is_good(*e) {
+            return Err(Placed {
+                fault: SheetFault::Value,
+                place: at,
+            });
+        }
+        let out = encode(*e);
+        let size = out.as_slice().len();
+        if room - at < size {
+            return Err(Placed {
+                fault: SheetFault::Room,
+                place: at,
+            });
+        }
+        at += size;
+    }
+    Ok(at)
+}
+
+// Puts an entry at a place that has room for it, and answers the place behind it.
+fn put_entry(e: Entry<&[u8]>, buf: &mut [u8], at: usize) -> usize
+    requires good { Good (item_of e) }
+    requires room { at + length (bytes (item_of e)) ≤ length buf.old }
+    ensures end { result ≡ at + length (bytes (item_of e.entry)) }
+    ensures placed { buf.new ≡ take at buf.old ++ (bytes (item_of e.entry) ++ drop result buf.old) }
+{
+    let out = encode(e);
+    let s = out.as_slice();
+    let end = at + s.len();
+    buf[at..end].copy_from_slice(s);
+    end
+}
+
+/// Writes a whole list of entries from the buffer's first byte on, as a sheet, and answers how many
+/// bytes it has.
+///
+/// # Errors
+/// The refusal of the first entry that `write` would refuse behind those before it, at the place
+/// where it would begin; the buffer is then unaltered.
+pub fn write_all(entries: &[Entry<&[u8]>], buf: &mut [u8]) -> Result<usize, Placed<SheetFault>>
+    ensures all { WroteAll (map item_of entries.now) buf.old buf.new result }
+    ensures sheet { IfOk result (λ n. WrittenFromStart (map item_of entries.now) (take n buf.new)) }
+{
+    let end = measure(entries, buf.len())?;
+    let mut at = 0;
+    for e in entries {
+        at = put_entry(*e, buf, at);
+    }
+    Ok(end)
+}
+
+/// A list written end to end leaves its sheet in the buffer, and can be written exactly if it is
+/// good and has room.
 pub fn writing_stands() -> u8
-    ensures { WritingLaw }
+    ensures writes { WritingLaw }
+    ensures sheets { SheetLaw }
 {
     0
 }

@@ -1,6 +1,8 @@
 use Rattle.std.proofs.Common.{◌≡◌, Bool, true, false, pos, ◌&&◌, rules, arith}
 use Rattle.sheet.specs.Table.{in_row}
-use Rattle.sheet.specs.Entries.{code_test, drawing_test, held_test, item_of}
+use Rattle.sheet.specs.Entries.{item_of}
+use Rattle.sheet.specs.Tests.{code_test, drawing_test}
+use Rattle.sheet.proofs.Tests.{held_test, judged}
 use Rattle.sheet.proofs.forms.is_good.Goals as goal
 use Rattle.sheet.proofs.forms.is_good.Goals.{then-code_ok, else-code_ok, then-is_none_or, else-is_none_or, then-admits, else-admits, then-is_none_or-2, else-is_none_or-2}
 
@@ -20,7 +22,7 @@ returns-then-is_none_or-3 c =
     let landing : c.if-admits.value ≡ (c.if-is_none_or.value && held_test (in_row 3) e.landing) = elim c.if-admits.branch [ then-admits w ↦ search rules | else-admits w ↦ search rules ] in
     let months : c.if-is_none_or-2.value ≡ (c.if-admits.value && held_test (λ n. in_row 4 (pos n)) e.months) = elim c.if-is_none_or-2.branch [ then-is_none_or-2 w ↦ search rules | else-is_none_or-2 w ↦ search rules ] in
     let drawing : c.is_none_or-then-is_none_or-3.result ≡ held_test drawing_test e.drawing = search rules in
-    passes _ _ _ _ _ _ _ _ _ _ _ parent count landing months c.if-is_none_or-3.true drawing
+    judged _ e (passes _ _ _ _ _ _ _ _ _ _ _ parent count landing months c.if-is_none_or-3.true drawing)
 
 pub returns-else-is_none_or-3 : goal.returns-else-is_none_or-3
 returns-else-is_none_or-3 c =
@@ -30,4 +32,4 @@ returns-else-is_none_or-3 c =
     let count : c.if-is_none_or.value ≡ (c.if-code_ok.value && in_row 2 (pos e.count)) = elim c.if-is_none_or.branch [ then-is_none_or w ↦ search rules | else-is_none_or w ↦ search rules ] in
     let landing : c.if-admits.value ≡ (c.if-is_none_or.value && held_test (in_row 3) e.landing) = elim c.if-admits.branch [ then-admits w ↦ search rules | else-admits w ↦ search rules ] in
     let months : c.if-is_none_or-2.value ≡ (c.if-admits.value && held_test (λ n. in_row 4 (pos n)) e.months) = elim c.if-is_none_or-2.branch [ then-is_none_or-2 w ↦ search rules | else-is_none_or-2 w ↦ search rules ] in
-    fails _ _ _ _ _ (held_test drawing_test e.drawing) _ _ _ _ parent count landing months c.if-is_none_or-3.false
+    judged _ e (fails _ _ _ _ _ (held_test drawing_test e.drawing) _ _ _ _ parent count landing months c.if-is_none_or-3.false)

@@ -1,5 +1,5 @@
-use Rattle.sheet.proofs.Writes.{writing}
+use Rattle.sheet.proofs.Writes.{writing, sheets}
 use Rattle.sheet.proofs.writing.writing_stands.Goals as goal
 
 pub returns : goal.returns
-returns c = writing
+returns c = record { writes = writing; sheets = sheets }
