@@ -43,8 +43,11 @@ figures = record {
   whole_block = λ key. computed key _ _ _ (limits _ (bytes_replicate 16 0 (lit< tt)) tt tt) refl refl;
   two_blocks = λ key. computed key _ _ _ (limits _ (bytes_replicate 17 0 (lit< tt)) tt tt) refl refl;
   block_held = body_figure 0 16;
+  first_block = refl;
   block_given = body_figure 16 1;
+  next_byte = refl;
   two_given = body_figure 1 32;
+  next_blocks = refl;
   entry_good = record { code = (refl, refl); parent = tt; count = refl; landing = tt; months = tt; drawing = tt };
   entry_bytes = refl;
   entry_sealed = λ key. computed key _ _ _ (limits _ doors_bytes tt tt) refl refl;
