@@ -5,6 +5,8 @@ pub mod caller;
 #[cfg(test)]
 mod chains;
 #[cfg(test)]
+mod edges;
+#[cfg(test)]
 mod figures;
 pub mod older;
 #[cfg(test)]

@@ -1,10 +1,12 @@
-// The published vectors of the submission: each key, digest, ciphertext and tag, through its suites with the older header digest.
+// The vectors that the POET v2.0 submission publishes, eight in all, four under each of its suites:
+// every key, digest, ciphertext and tag is executed and matched, through the suites with the older
+// header digest. They are what holds four-round AES to a source from outside.
 use crate::older::OlderSuite;
 use fault::kinds::{Placed, SessionFault};
 use poet::xor;
 use session::keys::KeyPlace;
 use session::play::play;
-use session::script::{Course, End, Stretch};
+use session::script::{Answer, Course, End, Stretch};
 use session::whole::{open, seal};
 use std::alloc::{AllocError, Global};
 use std::process::Abort;
@@ -13,7 +15,8 @@ use suite::{ChainingHash, HeaderDigest, Keyed, Permutation, Suite};
 use suites::ciphers::{Aes128, FourRounds};
 use suites::submission::Keys;
 
-// A key with the keys that are made from it, a header with its digest, and a message with its seal under either suite.
+// A key with the keys that are made from it, a header with its digest, and a message with its seal
+// under either suite.
 struct Published {
     delivered: [u8; 16],
     cipher: [u8; 16],
@@ -142,7 +145,8 @@ fn ten_rounds(rt: HostRuntime) -> Result<(), Fail> {
     Ok(())
 }
 
-// A message seals so, and opens again; one that is empty is no session's, so its tag is made from the parts.
+// A message seals so, and opens again; one that is empty is no session's, so its tag is made from
+// the parts.
 fn matches<S: Suite>(
     rt: &impl Abort,
     heap: Global,
@@ -194,7 +198,7 @@ fn in_stretches<S: Suite>(
     assert!(rt; log.out.as_slice() == sealed.ciphertext, "other ciphertext");
     assert!(rt; matches!(end, End::Sealed { last: _, tag: t } if t == sealed.tag));
     let bodies = sevens(heap, sealed.ciphertext)?;
-    let (log, _) = play::<S>(
+    let (log, end) = play::<S>(
         heap,
         &place,
         &headers,
@@ -204,6 +208,15 @@ fn in_stretches<S: Suite>(
         },
     )?;
     assert!(rt; log.out.as_slice() == v.message, "other message");
+    let rest = match v.message.len() % 16 {
+        0 => 16,
+        n => n,
+    };
+    assert!(rt;
+        log.answers.last() == Some(&Answer::Finish(Ok(rest))),
+        "not accepted"
+    );
+    assert!(rt; matches!(end, End::Opened { last } if v.message.ends_with(&last[0..rest])));
     Ok(())
 }
 

@@ -1,0 +1,2 @@
+pub mod Flipped
+pub mod Flips
