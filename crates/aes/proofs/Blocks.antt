@@ -1,7 +1,7 @@
 -- Blocks as states.
 use Rattle.std.proofs.Common.{◌≡◌, ℕ, zero, suc, ◌+◌, ◌*◌, ◌<◌, List, [], ◌∷◌, length, get_or, refl, ap, ap₂, ◌∙◌, arith, lit<}
-use Rattle.poet.specs.Bytes.{Bytes, Block}
-use Rattle.poet.proofs.Xors.{bytes_from}
+use Rattle.block.specs.Bytes.{Bytes, Block}
+use Rattle.block.proofs.Xors.{bytes_from}
 use Rattle.aes.specs.State.{byte_at, state}
 
 -- the list f 0, f 1, .. of n numbers

@@ -7,7 +7,7 @@ use Rattle.field.specs.Field.{mul}
 use Rattle.field.specs.Substitution.{sub, unsub}
 use Rattle.field.specs.Columns.{dot, mixed, unmixed}
 use Rattle.aes.specs.State.{byte_at, state, add_round_key, sub_bytes, shift_rows, mix_columns, inv_sub_bytes, inv_shift_rows, inv_mix_columns}
-use Rattle.poet.specs.Bytes.{Block}
+use Rattle.block.specs.Bytes.{Block}
 use Rattle.aes.specs.Cipher.{round}
 use Rattle.aes.proofs.Blocks.{as_state, byte_lt, state_of}
 use Rattle.aes.specs.declared.tables.TheConstants.{AFFINE_CONSTANT, DOUBLED_IN_TOWER, OUT_OF_TOWER, SUBSTITUTED, SUBSTITUTED_IN_TOWER, UNAFFINE_9, UNAFFINE_11, UNAFFINE_13, UNAFFINE_14, UNAFFINE_CONSTANT, UNSUBSTITUTED_9, UNSUBSTITUTED_11, UNSUBSTITUTED_13, UNSUBSTITUTED_14, SHIFTED_SAME_ROW, SHIFTED_NEXT_ROW, SHIFTED_SECOND_ROW, SHIFTED_THIRD_ROW, UNSHIFTED_SAME_ROW, UNSHIFTED_NEXT_ROW, UNSHIFTED_SECOND_ROW, UNSHIFTED_THIRD_ROW}

@@ -7,7 +7,7 @@ use Rattle.field.specs.Laws.{Undoes, after}
 use Rattle.field.proofs.Linear.{xor_twice}
 use Rattle.field.proofs.Columns.{dot_lt, unmixes, remixes}
 use Rattle.field.proofs.Substitution.{sub_lt, unsub_lt, substitutes}
-use Rattle.poet.specs.Bytes.{Block}
+use Rattle.block.specs.Bytes.{Block}
 use Rattle.aes.specs.State.{byte_at, sub_bytes, inv_sub_bytes, shift_rows, inv_shift_rows, mix_columns, inv_mix_columns, add_round_key}
 use Rattle.aes.proofs.Blocks.{as_state, state_of, state_block, byte_lt}
 

@@ -6,7 +6,7 @@ use Rattle.std.proofs.lemmas.List.{get_or-replicate}
 use Rattle.field.specs.Field.{xtime}
 use Rattle.field.proofs.Linear.{xtime_lt}
 use Rattle.field.proofs.Substitution.{sub_lt}
-use Rattle.poet.specs.Bytes.{Block}
+use Rattle.block.specs.Bytes.{Block}
 use Rattle.aes.specs.declared.Schedule.{Schedule}
 use Rattle.aes.specs.Cipher.{IsSchedule, key_at}
 use Rattle.aes.specs.Expansion.{power, listed, schedule}

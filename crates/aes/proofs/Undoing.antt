@@ -1,6 +1,6 @@
 -- Rounds undone in the tower.
 use Rattle.std.proofs.Common.{◌≡◌, ℕ, ◌+◌, ◌<◌, List, map, refl, sym, ap, ◌∙◌, add-one}
-use Rattle.poet.specs.Bytes.{Block}
+use Rattle.block.specs.Bytes.{Block}
 use Rattle.aes.specs.State.{add_round_key, inv_sub_bytes, inv_shift_rows, inv_mix_columns}
 use Rattle.aes.specs.Cipher.{IsSchedule, key_at}
 use Rattle.aes.specs.Grouping.{unround, unrounds}

@@ -1,7 +1,7 @@
 -- The rounds take blocks to blocks, and are undone, both ways round; so both forms permute the blocks.
 use Rattle.std.proofs.Common.{◌≡◌, ℕ, zero, suc, ◌<◌, List, sym, refl, ap, ◌∙◌, subst, arith, lit<}
-use Rattle.poet.specs.Bytes.{Block}
-use Rattle.poet.specs.Functions.{Permutes}
+use Rattle.block.specs.Bytes.{Block}
+use Rattle.block.specs.Permutes.{Permutes}
 use Rattle.aes.specs.State.{sub_bytes, inv_sub_bytes, shift_rows, inv_shift_rows, mix_columns, inv_mix_columns, add_round_key}
 use Rattle.aes.specs.Cipher.{IsSchedule, key_at, round, rounds, cipher, inv_cipher, cipher4, inv_cipher4}
 use Rattle.aes.specs.Grouping.{unround, unrounds}

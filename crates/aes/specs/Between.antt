@@ -1,7 +1,7 @@
 -- Where a state in the tower stands between the rounds, on the way forth and back. No contract of a
 -- public function cites it.
 use Rattle.std.specs.Prelude.{◌≡◌, ℕ, List, map}
-use Rattle.poet.specs.Bytes.{Block}
+use Rattle.block.specs.Bytes.{Block}
 use Rattle.aes.specs.State.{add_round_key, inv_shift_rows, inv_sub_bytes}
 use Rattle.aes.specs.Cipher.{key_at, rounds}
 use Rattle.aes.specs.Grouping.{unrounds}

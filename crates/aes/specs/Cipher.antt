@@ -1,7 +1,7 @@
 -- Cipher and InvCipher of FIPS 197 with ten rounds, and both with four whole rounds, under a list
 -- of round keys.
 use Rattle.std.specs.Prelude.{◌≡◌, ℕ, zero, suc, ◌<◌, List, [], length, slice_index_or}
-use Rattle.poet.specs.Bytes.{Block}
+use Rattle.block.specs.Bytes.{Block}
 use Rattle.aes.specs.State.{sub_bytes, shift_rows, mix_columns, add_round_key, inv_sub_bytes, inv_shift_rows, inv_mix_columns}
 
 -- round key i

@@ -1,8 +1,8 @@
 -- The laws: under every schedule, and so under every key, each form takes blocks to blocks, and its
 -- inverse undoes it, both ways round.
 use Rattle.std.specs.Prelude.{ℕ, List}
-use Rattle.poet.specs.Bytes.{Block}
-use Rattle.poet.specs.Functions.{Permutes}
+use Rattle.block.specs.Bytes.{Block}
+use Rattle.block.specs.Permutes.{Permutes}
 use Rattle.aes.specs.Cipher.{IsSchedule, cipher, inv_cipher, cipher4, inv_cipher4}
 use Rattle.aes.specs.Expansion.{schedule, aes, inv_aes, aes4, inv_aes4}
 

@@ -5,7 +5,7 @@
 #![tactic(auto)]
 
 ghost use Rattle.std.specs.Prelude.{◌≡◌, ℕ, ◌+◌, ◌-◌, ◌<◌, List, map, length, slice_index};
-ghost use Rattle.poet.specs.Bytes.{Block};
+ghost use Rattle.block.specs.Bytes.{Block};
 ghost use Rattle.aes.specs.Tower.{key_in_tower, unmixed_in_tower};
 ghost use Rattle.aes.specs.Between.{AfterRounds, BeforeRounds};
 ghost use Rattle.aes.specs.Cipher.{IsSchedule, cipher, cipher4, inv_cipher, inv_cipher4, key_at, rounds};

@@ -26,5 +26,5 @@ pub(crate) fn unshift_rows(s: [u8; 16]) -> [u8; 16]
 pub(crate) fn add_round_key(k: [u8; 16], s: [u8; 16]) -> [u8; 16]
     ensures { result ≡ add_round_key k s }
 {
-    poet::xor(s, k)
+    block::xor(s, k)
 }

@@ -52,7 +52,7 @@
 // J. Here the constant comes with the round key, too, which `unmix_round_key` has taken through
 // InvMixColumns, InvShiftRows and the affine map undone.
 ghost use Rattle.std.specs.Prelude.{◌≡◌, ℕ, List, map};
-ghost use Rattle.poet.specs.Bytes.{Block};
+ghost use Rattle.block.specs.Bytes.{Block};
 ghost use Rattle.aes.specs.Cipher.{round};
 ghost use Rattle.aes.specs.State.{add_round_key, inv_mix_columns, inv_shift_rows, inv_sub_bytes, sub_bytes};
 ghost use Rattle.aes.specs.Tower.{Indexes, by_halves, by_inverse, in_tower, key_in_tower, look_up, place_i, place_j, unaffine_in_tower, unmixed_in_tower};

@@ -1,6 +1,6 @@
 -- One byte more for a digest of headers, and one block more for those of whole blocks.
 use Rattle.std.proofs.Common.{◌≡◌, ℕ, ◌≤◌, List, [], ◌∷◌, ◌++◌, length, take, sym, ap, ◌∙◌, append_assoc, take_all, length-append, ◌<◌, arith}
-use Rattle.poet.specs.Bytes.{◌⊕◌}
+use Rattle.block.specs.Bytes.{◌⊕◌}
 use Rattle.forms.specs.Chained.{chained}
 use Rattle.forms.specs.Double.{double}
 use Rattle.forms.specs.Masked.{masked}

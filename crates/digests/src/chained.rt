@@ -3,7 +3,7 @@ ghost use Rattle.std.specs.Prelude.{◌≡◌};
 ghost use Rattle.forms.specs.Chained.{chained};
 
 use crate::filled::BlockDigest;
-use poet::xor;
+use block::xor;
 use suite::{ChainingHash, Permutation};
 
 /// A chained digest in progress: the last X and Y.

@@ -5,7 +5,7 @@ ghost use Rattle.forms.specs.Laws.{KeepsBytes};
 ghost use Rattle.forms.proofs.Fillings.{filled_bytes, filled_front, filled_whole};
 ghost use Rattle.forms.proofs.Fillings.{padded_bytes, padded_front, padded_whole};
 
-use poet::complete;
+use block::complete;
 
 // 80 and then zeros.
 const PADDING: [u8; 16] = [0x80, 0, 0, 0, 0, 0, 0, 0, 0, 0, 0, 0, 0, 0, 0, 0];

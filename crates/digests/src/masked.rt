@@ -1,11 +1,11 @@
 // The masked digest of whole blocks, over any permutation.
 ghost use Rattle.std.specs.Prelude.{◌≡◌, replicate};
-ghost use Rattle.poet.specs.Bytes.{◌⊕◌};
+ghost use Rattle.block.specs.Bytes.{◌⊕◌};
 ghost use Rattle.forms.specs.Masked.{masked};
 
 use crate::doubling::double;
 use crate::filled::BlockDigest;
-use poet::xor;
+use block::xor;
 use suite::Permutation;
 
 /// A masked digest in progress, as the POET v2.0 submission has it: the sum so far, and the mask of

@@ -1,9 +1,9 @@
 -- The known figures stand: each is what the definitions compute, and what they compute is the seal.
 use Rattle.std.proofs.Common.{◌≡◌, ℕ, ◌+◌, T, leb, List, [], length, replicate, Ok, refl, ap, ◌∙◌, ap₂, lit<, lit≤}
-use Rattle.poet.specs.Bytes.{Bytes, Block, ◌⊕◌}
+use Rattle.block.specs.Bytes.{Bytes, Block, ◌⊕◌}
 use Rattle.poet.specs.Seal.{Limits, Seals}
 use Rattle.poet.specs.Rows.{takes, gives, next, rows, last, cut, start, length_mask, closing, sealing, cipher, tag}
-use Rattle.poet.proofs.Xors.{bytes_nil, bytes_replicate}
+use Rattle.block.proofs.Xors.{bytes_nil, bytes_replicate}
 use Rattle.poet.proofs.Computing.{computing_law}
 use Rattle.forms.specs.Filling.{padded, filled}
 use Rattle.forms.specs.Chained.{chain_x, chain_y, chained}

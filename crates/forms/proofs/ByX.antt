@@ -2,8 +2,8 @@
 use Rattle.std.proofs.Common.{◌≡◌, ℕ, zero, suc, ◌+◌, ◌-◌, ◌*◌, ◌/◌, ◌%◌, ◌^◌, ◌<◌, cond, ◌||◌, ◌==◌, List, [], ◌∷◌, get_or, bit_xor, refl, ap, ap₂, ◌∙◌, inl, inr, arith, lit<}
 use Rattle.std.proofs.lemmas.Bool.{cases_lt, ne_eqb}
 use lib.Bits.{xor_shr, xor_mod}
-use Rattle.poet.specs.Bytes.{Block}
-use Rattle.poet.proofs.Xors.{get_or_xor, bytes_at}
+use Rattle.block.specs.Bytes.{Block}
+use Rattle.block.proofs.Xors.{get_or_xor, bytes_at}
 use Rattle.forms.specs.Double.{moved, double, coefficient, before}
 use Rattle.forms.specs.Laws.{DoubleLaw}
 use Rattle.forms.proofs.Doubles.{length_moved, moved_first, moved_later}

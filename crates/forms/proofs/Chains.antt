@@ -2,9 +2,9 @@
 use Rattle.std.specs.Prelude.{◌≡◌, ℕ, zero, suc, ◌+◌, ◌-◌, ◌*◌, ◌/◌, ◌≤◌, List, ◌++◌, length, take, drop}
 use Rattle.std.proofs.Math.Path.{ap, ap₂}
 use Rattle.std.proofs.Common.{sym, ◌∙◌, arith, length-append, drop-drop, drop_at, take_at, take_all}
-use Rattle.poet.specs.Bytes.{Bytes, Block, block, ◌⊕◌}
+use Rattle.block.specs.Bytes.{Bytes, Block, block, ◌⊕◌}
 use Rattle.poet.proofs.Rows.{block_block}
-use Rattle.poet.proofs.Xors.{block_xor}
+use Rattle.block.proofs.Xors.{block_xor}
 use Rattle.forms.specs.Chained.{chain_x, chain_y, chained}
 
 pub block_first : (p B : List ℕ) → length p ≡ 16 → block 0 (p ++ B) ≡ p

@@ -3,8 +3,8 @@ use Rattle.std.specs.Prelude.{◌≡◌, ℕ, zero, suc, ◌+◌, ◌*◌, ◌/�
 use Rattle.std.proofs.Math.Path.{ap}
 use Rattle.std.proofs.Common.{set, sym, ◌∙◌, arith, lit<}
 use Rattle.std.proofs.lemmas.List.{ext_get_or}
-use Rattle.poet.specs.Bytes.{Bytes, Block, ◌⊕◌}
-use Rattle.poet.proofs.Xors.{bytes_xor, length_xor}
+use Rattle.block.specs.Bytes.{Bytes, Block, ◌⊕◌}
+use Rattle.block.proofs.Xors.{bytes_xor, length_xor}
 use Rattle.forms.specs.Double.{moved, double}
 
 pub length_moved : (c : ℕ) (b : List ℕ) → length (moved c b) ≡ length b

@@ -1,8 +1,8 @@
 -- Numbers are blocks.
 use Rattle.std.specs.Prelude.{ℕ, true, false, Bool, cond, List, take, drop, replicate, nat_lt, refl}
 use Rattle.std.proofs.Common.{arith, lit<}
-use Rattle.poet.specs.Bytes.{Bytes, Block}
-use Rattle.poet.proofs.Xors.{bytes_append, bytes_replicate}
+use Rattle.block.specs.Bytes.{Bytes, Block}
+use Rattle.block.proofs.Xors.{bytes_append, bytes_replicate}
 use Rattle.forms.specs.Numbers.{big_endian, little_endian, coded}
 
 low_bytes : (n : ℕ) → Bytes (drop 8 (big_endian n))

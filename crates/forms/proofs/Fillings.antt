@@ -4,9 +4,9 @@ use Rattle.std.proofs.Math.Path.{ap}
 use Rattle.std.proofs.Common.{sym, ◌∙◌, append_assoc, inl, inr, arith, lit<, length-append}
 use Rattle.std.proofs.lemmas.Bool.{lt-ltb, eqb-true, eqb-false, ltb-true, ltb-false, and_parts, and_cases, cases_Bool, cond-true, cond-false}
 use Rattle.std.proofs.lemmas.List.{take_at, take-replicate, length-replicate}
-use Rattle.poet.specs.Bytes.{Bytes}
-use Rattle.poet.proofs.Completing.{completes}
-use Rattle.poet.proofs.Xors.{bytes_append, bytes_replicate}
+use Rattle.block.specs.Bytes.{Bytes}
+use Rattle.block.proofs.Completing.{completes}
+use Rattle.block.proofs.Xors.{bytes_append, bytes_replicate}
 use Rattle.forms.specs.Filling.{padded, filled}
 
 -- a block of 80 and zeros

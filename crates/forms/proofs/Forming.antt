@@ -1,9 +1,10 @@
 -- The forms are lawful.
 use Rattle.std.specs.Prelude.{ℕ, List, ◌++◌, refl}
 use Rattle.std.proofs.Common.{lit<}
-use Rattle.poet.specs.Bytes.{Block}
-use Rattle.poet.specs.Functions.{Permutes, Lawful}
-use Rattle.poet.proofs.Xors.{bytes_append, bytes_replicate}
+use Rattle.block.specs.Bytes.{Block}
+use Rattle.block.specs.Permutes.{Permutes}
+use Rattle.poet.specs.Functions.{Lawful}
+use Rattle.block.proofs.Xors.{bytes_append, bytes_replicate}
 use Rattle.forms.specs.Numbers.{big_endian}
 use Rattle.forms.specs.Filling.{padded}
 use Rattle.forms.specs.Keyed.{chained_by, key_of}

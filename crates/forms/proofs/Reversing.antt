@@ -2,9 +2,9 @@
 use Rattle.std.specs.Prelude.{ℕ, ◌-◌, ◌<◌, List, reverse, length}
 use Rattle.std.proofs.Common.{◌∙◌, arith}
 use Rattle.std.proofs.lemmas.List.{length-reverse, get_or-reverse, reverse-reverse}
-use Rattle.poet.specs.Bytes.{Block}
-use Rattle.poet.specs.Functions.{Permutes}
-use Rattle.poet.proofs.Xors.{bytes_from, bytes_at}
+use Rattle.block.specs.Bytes.{Block}
+use Rattle.block.specs.Permutes.{Permutes}
+use Rattle.block.proofs.Xors.{bytes_from, bytes_at}
 
 reverse_block : (b : List ℕ) → Block b → Block (reverse b)
 reverse_block b p =

@@ -2,9 +2,9 @@
 use Rattle.std.specs.Prelude.{◌≡◌, ℕ, zero, suc, ◌*◌, ◌/◌, ◌≤◌, List, ◌++◌, length, refl}
 use Rattle.std.proofs.Math.Path.{ap, ap₂}
 use Rattle.std.proofs.Common.{arith, length-append, take_all}
-use Rattle.poet.specs.Bytes.{Bytes, Block, ◌⊕◌}
+use Rattle.block.specs.Bytes.{Bytes, Block, ◌⊕◌}
 use Rattle.poet.proofs.Rows.{block_block}
-use Rattle.poet.proofs.Xors.{block_xor}
+use Rattle.block.proofs.Xors.{block_xor}
 use Rattle.forms.specs.Double.{double}
 use Rattle.forms.proofs.Doubles.{double_block}
 use Rattle.forms.specs.Masked.{mask, summed, masked}

@@ -1,6 +1,6 @@
 -- The chained digest of whole blocks, over e, the permutation, and c, the chaining hash.
 use Rattle.std.specs.Prelude.{ℕ, zero, suc, ◌-◌, ◌/◌, List, length}
-use Rattle.poet.specs.Bytes.{block, ◌⊕◌}
+use Rattle.block.specs.Bytes.{block, ◌⊕◌}
 
 -- the two sequences over the blocks of B, from x and y: X_i = c X_(i-1) ⊕ B_i and Y_i = e X_i
 unfoldable pub chain_x : (c : List ℕ → List ℕ) (x B : List ℕ) → ℕ → List ℕ

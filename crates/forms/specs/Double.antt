@@ -2,7 +2,7 @@
 -- NIST's GCM: the coefficient of 1 is the top bit of byte 0, and that of x^127 the low bit of byte
 -- 15.
 use Rattle.std.specs.Prelude.{ℕ, zero, suc, ◌+◌, ◌-◌, ◌*◌, ◌/◌, ◌%◌, ◌^◌, List, [], ◌∷◌, slice_index}
-use Rattle.poet.specs.Bytes.{◌⊕◌}
+use Rattle.block.specs.Bytes.{◌⊕◌}
 
 -- the bytes, each moved down by a bit, with the bit c on top of the first, and the low bit of each
 -- byte on top of the next

@@ -1,7 +1,8 @@
 -- What holds of the forms.
 use Rattle.std.specs.Prelude.{◌≡◌, ℕ, ◌<◌, ◌||◌, List, bit_xor, ◌==◌, if◌then◌else◌}
-use Rattle.poet.specs.Bytes.{Bytes, Block}
-use Rattle.poet.specs.Functions.{Permutes, Lawful}
+use Rattle.block.specs.Bytes.{Bytes, Block}
+use Rattle.block.specs.Permutes.{Permutes}
+use Rattle.poet.specs.Functions.{Lawful}
 use Rattle.forms.specs.Double.{double, coefficient, before}
 use Rattle.forms.specs.Keyed.{Cipher, keyed_by}
 use Rattle.forms.specs.Submitted.{submitted_by}

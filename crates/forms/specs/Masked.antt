@@ -1,6 +1,6 @@
 -- The masked digest of whole blocks, over e, the permutation.
 use Rattle.std.specs.Prelude.{ℕ, zero, suc, ◌/◌, List, length}
-use Rattle.poet.specs.Bytes.{block, ◌⊕◌}
+use Rattle.block.specs.Bytes.{block, ◌⊕◌}
 use Rattle.forms.specs.Double.{double}
 
 -- the mask of block i, counted from 0: L doubled i times

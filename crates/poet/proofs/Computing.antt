@@ -1,12 +1,12 @@
 -- What is computed is the seal.
 use Rattle.std.proofs.Common.{◌≡◌, ℕ, suc, ◌-◌, ◌*◌, ◌≤◌, cond, ltb, List, ◌++◌, length, take, drop, sym, refl, ap, ◌∙◌, ap₂, subst₂, arith, length-append, length-drop, take-append-drop, take_at, drop_at}
 use Rattle.std.proofs.lemmas.Bool.{lt-ltb, le-ltb, cond-true, cond-false}
-use Rattle.poet.specs.Bytes.{Block, ◌⊕◌}
+use Rattle.block.specs.Bytes.{Block, ◌⊕◌}
 use Rattle.poet.specs.Functions.{Functions, Lawful}
 use Rattle.poet.specs.Seal.{Limits, Rows, Seals}
 use Rattle.poet.specs.Rows.{State, last, cut, whole, last_length, length_mask, closing, sealing, cipher, tag, Computed}
 use Rattle.poet.specs.Laws.{ComputingLaw}
-use Rattle.poet.proofs.Xors.{block_xor, block_comm, xor_swap, bytes_append, bytes_take, bytes_drop}
+use Rattle.block.proofs.Xors.{block_xor, block_comm, xor_swap, bytes_append, bytes_take, bytes_drop}
 use Rattle.poet.proofs.Rows.{Kept}
 use Rattle.poet.proofs.Opening.{length_mask_block, ends_law, ends_most, ends_some, fills}
 use Rattle.poet.proofs.Ties.{row, row_kept, row_length, ties, tied}

@@ -1,9 +1,9 @@
 -- Functions that are lawful: blocks masked by one fixed block.
 use Rattle.std.proofs.Common.{ℕ, List, replicate, refl, lit<}
-use Rattle.poet.specs.Bytes.{Block, ◌⊕◌}
+use Rattle.block.specs.Bytes.{Block, ◌⊕◌}
 use Rattle.poet.specs.Functions.{Functions, Lawful}
 use Rattle.poet.specs.Laws.{LawfulSome}
-use Rattle.poet.proofs.Xors.{bytes_replicate, xor_twice, block_xor}
+use Rattle.block.proofs.Xors.{bytes_replicate, xor_twice, block_xor}
 
 abbrev mask : List ℕ
 mask = replicate 16 0x5a

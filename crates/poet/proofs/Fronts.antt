@@ -1,6 +1,6 @@
 -- The first blocks out come from the first blocks in, and tell them apart.
 use Rattle.std.proofs.Common.{◌≡◌, ℕ, zero, suc, ◌+◌, ◌-◌, ◌*◌, ◌<◌, ◌≤◌, List, [], ◌++◌, length, take, drop, sym, ap, ◌∙◌, append_assoc, append-nil, arith, take-append-drop, length-take-le, take_at}
-use Rattle.poet.specs.Bytes.{Bytes, block}
+use Rattle.block.specs.Bytes.{Bytes, block}
 use Rattle.poet.specs.Rows.{State, turned, next, gives, rows, cut, whole, last_length}
 use Rattle.poet.proofs.Rows.{Kept, rows_front, rows_add, rows_length}
 use Rattle.poet.proofs.Turn.{Ways, rows_turn}

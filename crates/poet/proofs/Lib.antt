@@ -1,6 +1,3 @@
-pub mod Made
-pub mod Xors
-pub mod Completing
 pub mod Rows
 pub mod Turn
 pub mod Opening

@@ -1,10 +1,10 @@
 -- Opening undoes sealing, and sealing undoes opening.
 use Rattle.std.proofs.Common.{◌≡◌, ℕ, ◌+◌, ◌-◌, ◌*◌, ◌≤◌, List, [], length, take, refl, ap, ◌∙◌, arith, lit<, length-append, take-append-drop, length-take, take_at, drop_at}
-use Rattle.poet.specs.Bytes.{Bytes, Block}
+use Rattle.block.specs.Bytes.{Bytes, Block}
 use Rattle.poet.specs.Functions.{Functions, Lawful}
 use Rattle.poet.specs.Seal.{Limits}
 use Rattle.poet.specs.Rows.{AllRows, turned, whole, last_length, start, length_mask, closing, sealing, opening, cipher, tag, opened, Computed, Accepts}
-use Rattle.poet.proofs.Xors.{block_xor, bytes_nil, bytes_append, bytes_take}
+use Rattle.block.proofs.Xors.{block_xor, bytes_nil, bytes_append, bytes_take}
 use Rattle.poet.proofs.Rows.{Kept}
 use Rattle.poet.proofs.Turn.{Ways, turn, Facts, facts}
 

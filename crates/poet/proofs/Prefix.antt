@@ -1,6 +1,6 @@
 -- The prefix laws.
 use Rattle.std.proofs.Common.{◌≡◌, ℕ, ◌*◌, ◌<◌, ◌≤◌, List, length, take, sym, refl, ap, ◌∙◌, arith}
-use Rattle.poet.specs.Bytes.{Bytes, Block}
+use Rattle.block.specs.Bytes.{Bytes, Block}
 use Rattle.poet.specs.Functions.{Functions, Lawful}
 use Rattle.poet.specs.Seal.{Limits, Rows, Tied, Seals}
 use Rattle.poet.specs.Rows.{State, turned, rows, start, opening, opened}

@@ -1,9 +1,9 @@
 -- Rows: how they go on, what they read, and what they keep.
 use Rattle.std.proofs.Common.{◌≡◌, ℕ, zero, suc, ◌+◌, ◌*◌, ◌≤◌, List, ◌++◌, length, drop, refl, add-zero, add-suc, arith, length-append, length-drop, length-take-le, drop-drop}
 use lib.Seq.{take-append-le, drop-append-le}
-use Rattle.poet.specs.Bytes.{Bytes, Block, block}
+use Rattle.block.specs.Bytes.{Bytes, Block, block}
 use Rattle.poet.specs.Rows.{State, takes, gives, next, rows}
-use Rattle.poet.proofs.Xors.{bytes_append, bytes_take, bytes_drop, block_xor}
+use Rattle.block.proofs.Xors.{bytes_append, bytes_take, bytes_drop, block_xor}
 
 pub block_append : (n : ℕ) (a b : List ℕ) → 16 * n + 16 ≤ length a → block n (a ++ b) ≡ block n a
 block_append n a b l =

@@ -1,10 +1,10 @@
 -- The rows that are computed are those of the seal's equations.
 use Rattle.std.proofs.Common.{◌≡◌, ℕ, zero, suc, ◌+◌, ◌*◌, ◌<◌, ◌≤◌, List, [], ◌++◌, length, take, drop, sym, refl, ap, ◌∙◌, ap₂, append_assoc, arith, take-append-drop, take_at, take-add, drop_at}
-use Rattle.poet.specs.Bytes.{Bytes, block, ◌⊕◌}
+use Rattle.block.specs.Bytes.{Bytes, block, ◌⊕◌}
 use Rattle.poet.specs.Functions.{Functions, Lawful}
 use Rattle.poet.specs.Seal.{Rows}
 use Rattle.poet.specs.Rows.{State, takes, gives, next, rows, start}
-use Rattle.poet.proofs.Xors.{block_comm}
+use Rattle.block.proofs.Xors.{block_comm}
 use Rattle.poet.proofs.Rows.{Kept, block_block, rows_kept, takes_block, gives_block}
 use Rattle.poet.proofs.Fronts.{rows_begin, front_length}
 use Rattle.poet.proofs.Opening.{ways, start_kept, start_out}

@@ -1,9 +1,9 @@
 -- Rows run backwards.
 use Rattle.std.proofs.Common.{◌≡◌, ℕ, zero, suc, ◌+◌, ◌*◌, ◌≤◌, List, [], ◌++◌, length, take, drop, refl, ◌∙◌, arith, length-append, length-drop, take-append-drop, length-take, take_all, take_at, take-add, drop_at}
-use Rattle.poet.specs.Bytes.{Bytes, Block, block, ◌⊕◌}
-use Rattle.poet.specs.Functions.{Permutes}
+use Rattle.block.specs.Bytes.{Bytes, Block, block, ◌⊕◌}
+use Rattle.block.specs.Permutes.{Permutes}
 use Rattle.poet.specs.Rows.{State, takes, gives, next, rows, turned, last, cut}
-use Rattle.poet.proofs.Xors.{xor_twice, block_xor, bytes_append, bytes_take, bytes_drop}
+use Rattle.block.proofs.Xors.{xor_twice, block_xor, bytes_append, bytes_take, bytes_drop}
 use Rattle.poet.proofs.Rows.{block_block, rows_front, Kept, takes_block, gives_block, rows_kept, rows_length}
 
 -- e and d undo one another on blocks, and c gives blocks

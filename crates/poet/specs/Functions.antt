@@ -1,6 +1,7 @@
 -- What the mode is built on: the five functions of a suite under one key.
-use Rattle.std.specs.Prelude.{◌≡◌, ℕ, ◌^◌, ◌<◌, List}
-use Rattle.poet.specs.Bytes.{Bytes, Block}
+use Rattle.std.specs.Prelude.{ℕ, ◌^◌, ◌<◌, List}
+use Rattle.block.specs.Permutes.{Permutes}
+use Rattle.block.specs.Bytes.{Bytes, Block}
 
 pub record Functions : Type 0 where
   -- E and D, a permutation of the blocks and its inverse
@@ -12,13 +13,6 @@ pub record Functions : Type 0 where
   pub num : ℕ → List ℕ
   -- Dig, the header digest, from any bytes to a block
   pub dig : List ℕ → List ℕ
-
--- e and d take blocks to blocks and undo one another
-pub record Permutes (e d : List ℕ → List ℕ) : Type 0 where
-  pub dec_enc : (b : List ℕ) → Block b → d (e b) ≡ b
-  pub enc_dec : (b : List ℕ) → Block b → e (d b) ≡ b
-  pub enc_block : (b : List ℕ) → Block b → Block (e b)
-  pub dec_block : (b : List ℕ) → Block b → Block (d b)
 
 -- what every suite keeps under every key
 pub record Lawful (f : Functions) : Type 0 where

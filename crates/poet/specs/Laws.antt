@@ -1,6 +1,6 @@
 -- The laws of the mode, over all lawful functions.
 use Rattle.std.specs.Prelude.{◌≡◌, ℕ, ◌*◌, ◌<◌, ◌≤◌, ◌↔◌, List, [], ◌∷◌, ◌++◌, length, take, drop}
-use Rattle.poet.specs.Bytes.{Bytes, Block}
+use Rattle.block.specs.Bytes.{Bytes, Block}
 use Rattle.poet.specs.Functions.{Functions, Lawful}
 use Rattle.poet.specs.Seal.{Limits, Tied, Seals}
 use Rattle.poet.specs.Rows.{State, AllRows, rows, whole, last, all_rows, opened, Computed, Accepts}

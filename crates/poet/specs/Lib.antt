@@ -1,4 +1,3 @@
-pub mod Bytes
 pub mod Functions
 pub mod Seal
 pub mod Rows

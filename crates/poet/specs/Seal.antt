@@ -1,6 +1,6 @@
 -- The seal of POET v2.0, as the scheme states it: an equation for each row, and no program.
 use Rattle.std.specs.Prelude.{◌≡◌, ℕ, suc, ◌+◌, ◌-◌, ◌*◌, ◌<◌, ◌≤◌, List, ◌++◌, length, take, drop}
-use Rattle.poet.specs.Bytes.{Bytes, block, ◌⊕◌}
+use Rattle.block.specs.Bytes.{Bytes, block, ◌⊕◌}
 use Rattle.poet.specs.Functions.{Functions}
 
 -- the most bytes that a header has, and a message

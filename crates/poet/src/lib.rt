@@ -1,34 +1,10 @@
-// POET v2.0 as definitions and laws, over functions of which only their laws are known; and the two
-// functions on blocks that every layer above needs.
+// POET v2.0 as definitions and laws, over functions of which only their laws are known.
 //
 // A function whose name ends in `_stands` does nothing: its contract is a theorem, and the crate is
 // refused without the proof.
 #![tactic(auto)]
 
-ghost use Rattle.poet.specs.Bytes.{◌⊕◌};
 ghost use Rattle.poet.specs.Laws.{ComputingLaw, LawfulSome, OpeningLaw, OpeningPrefix, PiecesLaw, PrefixLaw, SealingPrefix, TagLaw};
-ghost use Rattle.std.specs.Prelude.{◌≡◌, ◌++◌, take};
-
-use std::array;
-
-/// The exclusive or of two blocks, byte by byte.
-pub fn xor(a: [u8; 16], b: [u8; 16]) -> [u8; 16]
-    ensures { result ≡ a ⊕ b }
-{
-    array::from_fn(|i| a[i] ^ b[i])
-}
-
-/// `front`, completed to a block with the first bytes of `fill`; its own first sixteen bytes, if it
-/// has more.
-pub fn complete(front: &[u8], fill: &[u8; 16]) -> [u8; 16]
-    ensures { result ≡ take 16 (front.now ++ fill.now) }
-{
-    let n = front.len().min(16);
-    let mut block = [0; 16];
-    block[..n].copy_from_slice(&front[..n]);
-    block[n..].copy_from_slice(&fill[..16 - n]);
-    block
-}
 
 /// A theorem: what the definitions compute is the seal by its equations, and nothing else is; a
 /// seal's ciphertext is as long as its message, and its tag has sixteen bytes.

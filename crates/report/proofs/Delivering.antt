@@ -11,9 +11,9 @@ use Rattle.fault.specs.declared.kinds.SessionFault.TheVariants.{Empty}
 use Rattle.fault.specs.declared.kinds.SheetFault.{SheetFault}
 use Rattle.fault.specs.declared.kinds.ConsoleFault.{ConsoleFault}
 use Rattle.fault.specs.declared.kinds.Placed.{Placed}
-use Rattle.poet.specs.Bytes.{Bytes, Block}
+use Rattle.block.specs.Bytes.{Bytes, Block}
 use Rattle.poet.specs.Functions.{Functions, Lawful}
-use Rattle.poet.proofs.Xors.{bytes_take, bytes_drop}
+use Rattle.block.proofs.Xors.{bytes_take, bytes_drop}
 use Rattle.poet.proofs.Computing.{computing_law}
 use Rattle.poet.proofs.Opening.{cipher_length}
 use Rattle.suites.specs.declared.listed.Listed.{Listed as ListedSuite}

@@ -6,7 +6,7 @@ use Rattle.std.specs.declared.alloc.AllocError.{AllocError}
 use Rattle.fault.specs.declared.kinds.SessionFault.{SessionFault}
 use Rattle.fault.specs.declared.kinds.Placed.{Placed}
 use Rattle.fault.specs.Refusals.{Refusal}
-use Rattle.poet.specs.Bytes.{Block}
+use Rattle.block.specs.Bytes.{Block}
 use Rattle.poet.specs.Functions.{Functions, Lawful}
 use Rattle.poet.specs.Seal.{Seals}
 use Rattle.suite.specs.declared.Suite as suite

@@ -5,7 +5,7 @@ use Rattle.std.specs.Bool.{then_some}
 use Rattle.std.proofs.lemmas.Bool.{and_parts, and_cases}
 use Rattle.poet.specs.Functions.{Functions}
 use Rattle.poet.specs.Rows.{State, AllRows, rows, last, cut, whole, last_length, all_rows, start, turned, length_mask, closing, sealing, cipher, tag, opening, opened}
-use Rattle.poet.proofs.Completing.{completes}
+use Rattle.block.proofs.Completing.{completes}
 use Rattle.session.specs.declared.rows.Lanes.{Lanes}
 use Rattle.session.specs.Steps.{lanes, Ended, Tests, Tested}
 

@@ -6,7 +6,7 @@ use Rattle.fault.specs.declared.kinds.SessionFault.TheVariants.{Forged, Tag}
 use Rattle.fault.specs.declared.kinds.Placed.{Placed}
 use Rattle.fault.specs.declared.kinds.Layer.TheVariants.{Session as SessionLayer}
 use Rattle.fault.specs.Refusals.{refusal, IsRefusal, RefusedBy, session_faults}
-use Rattle.poet.specs.Bytes.{Bytes, Block}
+use Rattle.block.specs.Bytes.{Bytes, Block}
 use Rattle.poet.specs.Functions.{Functions, Lawful}
 use Rattle.poet.specs.Seal.{body_most, Limits, Seals}
 use Rattle.poet.specs.Rows.{last_length, cipher, tag, opened}

@@ -1,6 +1,6 @@
 -- Every run of a session hands out the blocks of the rows.
 use Rattle.std.proofs.Common.{◌≡◌, ℕ, ◌*◌, ◌≤◌, List, length, take, sym, refl, ap, ◌∙◌, subst, arith, take_at}
-use Rattle.poet.specs.Bytes.{Bytes}
+use Rattle.block.specs.Bytes.{Bytes}
 use Rattle.poet.specs.Functions.{Functions, Lawful}
 use Rattle.poet.specs.Seal.{Tied, Seals}
 use Rattle.poet.specs.Rows.{State, turned, rows, whole, start}

@@ -4,7 +4,7 @@ use borrow.Rule.Slice.PartMut.{put_mid}
 use Rattle.std.proofs.lemmas.Slice.{take-put_mid, drop-put_mid}
 use Rattle.std.proofs.Math.Seq.{drop-append-add}
 use Rattle.std.proofs.lemmas.List.{drop-drop, take_at, length-drop, length-take-le, length-append}
-use Rattle.poet.specs.Bytes.{block}
+use Rattle.block.specs.Bytes.{block}
 use Rattle.poet.specs.Rows.{State, takes, gives, next, rows}
 use Rattle.session.specs.declared.rows.Lanes.{Lanes}
 use Rattle.session.specs.Steps.{lanes, Stepped, Ran}

@@ -1,6 +1,6 @@
 -- A session whose body has just started.
 use Rattle.std.proofs.Common.{◌≡◌, ℕ, ◌*◌, List, [], length, drop, sym, refl, ap, ◌∙◌}
-use Rattle.poet.specs.Bytes.{◌⊕◌}
+use Rattle.block.specs.Bytes.{◌⊕◌}
 use Rattle.poet.specs.Functions.{Functions}
 use Rattle.poet.specs.Rows.{State, rows, whole, start}
 use Rattle.session.specs.Directions.{Direction, sealing, opening, turns}

@@ -4,7 +4,7 @@ use Rattle.fault.specs.declared.kinds.SessionFault.{SessionFault}
 use Rattle.fault.specs.declared.kinds.Placed.{Placed}
 use Rattle.fault.specs.Refusals.{Refusal, session_faults}
 use Rattle.fault.proofs.Refusing.{refuses_is}
-use Rattle.poet.specs.Bytes.{Block}
+use Rattle.block.specs.Bytes.{Block}
 use Rattle.poet.specs.Functions.{Lawful}
 use Rattle.suite.specs.declared.Suite as suite
 use Rattle.suite.specs.declared.Permutation as permutation

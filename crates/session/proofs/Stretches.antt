@@ -1,7 +1,7 @@
 -- A body call: from where the rows stood, what it brings and what it writes, to where they stand.
 use Rattle.std.proofs.Common.{◌≡◌, ℕ, zero, suc, ◌+◌, ◌*◌, ◌≤◌, List, [], ◌++◌, length, take, drop, sym, refl, ap, ◌∙◌, ap₂, append_assoc, append-nil, arith, length-drop, take_all, drop-drop}
 use lib.Seq.{drop-append-le}
-use Rattle.poet.specs.Bytes.{Bytes, block}
+use Rattle.block.specs.Bytes.{Bytes, block}
 use Rattle.poet.specs.Functions.{Functions, Lawful}
 use Rattle.poet.specs.Rows.{State, takes, gives, next, rows, whole, start}
 use Rattle.poet.proofs.Rows.{Kept, rows_front, rows_add, rows_length}

@@ -1,6 +1,6 @@
 -- What a session promises of every run, finished or not, accepted or not.
 use Rattle.std.specs.Prelude.{◌≡◌, ℕ, ◌*◌, ◌<◌, ◌≤◌, ◌↔◌, List, length, take}
-use Rattle.poet.specs.Bytes.{Bytes}
+use Rattle.block.specs.Bytes.{Bytes}
 use Rattle.poet.specs.Functions.{Functions, Lawful}
 use Rattle.poet.specs.Seal.{Tied}
 use Rattle.session.specs.Directions.{Direction, sealing, opening}

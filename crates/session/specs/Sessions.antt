@@ -4,7 +4,7 @@ use Rattle.fault.specs.declared.kinds.Layer.TheVariants.{Session as SessionLayer
 use Rattle.fault.specs.declared.kinds.SessionFault.{SessionFault}
 use Rattle.fault.specs.declared.kinds.SessionFault.TheVariants.{Header, Body, Room, Empty}
 use Rattle.fault.specs.Refusals.{Refusal, refusal}
-use Rattle.poet.specs.Bytes.{Bytes, Block}
+use Rattle.block.specs.Bytes.{Bytes, Block}
 use Rattle.poet.specs.Functions.{Functions}
 use Rattle.poet.specs.Seal.{header_most, body_most}
 use Rattle.poet.specs.Rows.{State, rows, whole, start}

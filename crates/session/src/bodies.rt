@@ -15,8 +15,8 @@ use crate::blocks::same;
 use crate::checks::{BODY_MOST, tag_bytes};
 use crate::rows::{Open, Seal, Way};
 use crate::types::{Opening, Sealing, Session};
+use block::complete;
 use fault::kinds::{Placed, SessionFault};
-use poet::complete;
 use suite::Suite;
 
 impl<S: Suite, W: Way> Session<S, W> {

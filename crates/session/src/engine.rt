@@ -10,8 +10,8 @@ ghost use Rattle.session.specs.Engines.{EngineAt};
 ghost use Rattle.session.specs.Steps.{Ended, Ran, Stepped};
 
 use crate::rows::{Lanes, Way};
+use block::{complete, xor};
 use buffer::Buffer;
-use poet::{complete, xor};
 use suite::{ChainingHash, Permutation, Suite};
 
 #[derive(Drop)]

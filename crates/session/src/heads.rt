@@ -9,9 +9,9 @@ use crate::engine::Engine;
 use crate::keys::KeyPlace;
 use crate::rows::Way;
 use crate::types::{Heading, Opening, Sealing, Session};
+use block::xor;
 use buffer::Buffer;
 use fault::kinds::{Placed, SessionFault};
-use poet::xor;
 use std::marker::PhantomData;
 use suite::{HeaderDigest, Keyed, Suite};
 

@@ -4,8 +4,9 @@
 #![tactic(auto)]
 
 ghost use Rattle.std.specs.Prelude.{◌≡◌, List, [], ◌++◌, ℕ};
-ghost use Rattle.poet.specs.Bytes.{Block};
-ghost use Rattle.poet.specs.Functions.{Functions, Lawful, Permutes};
+ghost use Rattle.block.specs.Bytes.{Block};
+ghost use Rattle.block.specs.Permutes.{Permutes};
+ghost use Rattle.poet.specs.Functions.{Functions, Lawful};
 
 // A permutation of the blocks and its inverse.
 pub trait Permutation {

@@ -1,7 +1,7 @@
 -- A suite that no list has: E and D add a block of 5A, F returns its block, numbers are big-endian, and
 -- every header has the same digest, zeros.
 use Rattle.std.specs.Prelude.{ℕ, List, replicate}
-use Rattle.poet.specs.Bytes.{◌⊕◌}
+use Rattle.block.specs.Bytes.{◌⊕◌}
 use Rattle.poet.specs.Functions.{Functions}
 use Rattle.forms.specs.Numbers.{big_endian}
 

@@ -1,9 +1,10 @@
 -- Nothing to believe: the suite is lawful.
 use Rattle.std.specs.Prelude.{ℕ, List, replicate, refl}
 use Rattle.std.proofs.Common.{lit<}
-use Rattle.poet.specs.Bytes.{Block, ◌⊕◌}
-use Rattle.poet.specs.Functions.{Permutes, Lawful}
-use Rattle.poet.proofs.Xors.{block_xor, bytes_replicate, xor_twice}
+use Rattle.block.specs.Bytes.{Block, ◌⊕◌}
+use Rattle.block.specs.Permutes.{Permutes}
+use Rattle.poet.specs.Functions.{Lawful}
+use Rattle.block.proofs.Xors.{block_xor, bytes_replicate, xor_twice}
 use Rattle.forms.proofs.Endian.{big_endian_block}
 use Rattle.forms.proofs.Forming.{zeros_block}
 use Rattle.suite_trials.specs.Flipped.{pattern, flipped}

@@ -1,10 +1,10 @@
 // The suite: no cipher.
-ghost use Rattle.poet.specs.Bytes.{◌⊕◌};
+ghost use Rattle.block.specs.Bytes.{◌⊕◌};
 ghost use Rattle.std.specs.Prelude.{replicate};
 ghost use Rattle.suite_trials.specs.Flipped.{flipped, pattern};
 ghost use Rattle.suite_trials.specs.Flips.{flipped_lawful, flips};
 
-use poet::xor;
+use block::xor;
 use suite::{ChainingHash, HeaderDigest, Keyed, Permutation, Suite};
 use suites::numbers::big_endian;
 

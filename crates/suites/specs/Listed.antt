@@ -4,7 +4,7 @@ use Rattle.std.specs.Prelude.{◌≡◌, ℕ, List, Ok, Err, Result, ◌↔◌, 
 use Rattle.fault.specs.declared.kinds.KeyFault.{KeyFault}
 use Rattle.fault.specs.declared.kinds.KeyFault.TheVariants.{Suite}
 use Rattle.fault.specs.declared.kinds.Placed.{Placed}
-use Rattle.poet.specs.Bytes.{Block}
+use Rattle.block.specs.Bytes.{Block}
 use Rattle.poet.specs.Functions.{Functions, Lawful}
 use Rattle.suites.specs.declared.listed.TheConstants.{SHAFT, POET_AES_FOUR, POET_AES_TEN, MIRROR}
 use Rattle.suites.specs.declared.listed.Listed.{Listed}

@@ -1,6 +1,6 @@
 -- One byte more for the older digest, and its end.
 use Rattle.std.proofs.Common.{◌≡◌, ℕ, ◌≤◌, List, [], ◌∷◌, ◌++◌, length, take, replicate, append-nil, arith}
-use Rattle.poet.specs.Bytes.{◌⊕◌}
+use Rattle.block.specs.Bytes.{◌⊕◌}
 use Rattle.forms.specs.Double.{double}
 use Rattle.trials.specs.Older.{last_mask, older}
 use Rattle.trials.specs.Olders.{older_next, older_end}

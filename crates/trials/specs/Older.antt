@@ -1,7 +1,7 @@
 -- The older form of the masked header digest, by which the published vectors of the submission were
 -- made.
 use Rattle.std.specs.Prelude.{ℕ, ◌-◌, ◌/◌, ◌%◌, ◌&&◌, List, length, ◌==◌, nat_lt, if◌then◌else◌}
-use Rattle.poet.specs.Bytes.{block, ◌⊕◌}
+use Rattle.block.specs.Bytes.{block, ◌⊕◌}
 use Rattle.poet.specs.Functions.{Functions}
 use Rattle.forms.specs.Numbers.{coded}
 use Rattle.forms.specs.Double.{double}

@@ -3,10 +3,10 @@ use Rattle.std.specs.Prelude.{◌≡◌, ℕ, suc, ◌+◌, ◌-◌, ◌*◌, �
 use Rattle.std.proofs.Math.Path.{ap, ap₂}
 use Rattle.std.proofs.Common.{inl, inr, sym, ◌∙◌, arith, length-append, length-take, take_all}
 use Rattle.std.proofs.lemmas.Bool.{lt-ltb, ltb-true, eqb-true, and_parts, cases_Bool, cond-false}
-use Rattle.poet.specs.Bytes.{Bytes, Block, block, ◌⊕◌}
+use Rattle.block.specs.Bytes.{Bytes, Block, block, ◌⊕◌}
 use Rattle.poet.specs.Functions.{Lawful}
 use Rattle.poet.proofs.Rows.{block_block}
-use Rattle.poet.proofs.Xors.{block_xor}
+use Rattle.block.proofs.Xors.{block_xor}
 use Rattle.forms.specs.Double.{double}
 use Rattle.forms.specs.Filling.{filled}
 use Rattle.forms.specs.Keyed.{Cipher, key_of}

@@ -7,7 +7,7 @@ ghost use Rattle.trials.specs.Olders.{older_lawful};
 
 use buffer::Buffer;
 use digests::doubling::double;
-use poet::{complete, xor};
+use block::{complete, xor};
 use std::marker::PhantomData;
 use suite::{HeaderDigest, Keyed, Permutation, Suite};
 use suites::ciphers::{Aes128, KeyedHash};

@@ -3,7 +3,7 @@
 // header digest. They are what holds four-round AES to a source from outside.
 use crate::older::OlderSuite;
 use fault::kinds::{Placed, SessionFault};
-use poet::xor;
+use block::xor;
 use session::keys::KeyPlace;
 use session::play::play;
 use session::script::{Answer, Course, End, Stretch};

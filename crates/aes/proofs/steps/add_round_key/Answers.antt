@@ -1,6 +1,6 @@
 use Rattle.std.proofs.Common.{◌+◌, ◌*◌, ◌∙◌, bit_xor, arith}
-use Rattle.poet.specs.Bytes.{◌⊕◌}
-use Rattle.poet.proofs.Xors.{length_xor, get_or_xor}
+use Rattle.block.specs.Bytes.{◌⊕◌}
+use Rattle.block.proofs.Xors.{length_xor, get_or_xor}
 use Rattle.aes.specs.State.{byte_at, add_round_key}
 use Rattle.aes.proofs.Blocks.{placed}
 use Rattle.aes.proofs.steps.add_round_key.Goals as goal

@@ -1,5 +1,5 @@
 use Rattle.std.proofs.Common.{◌≡◌, get_or, rules, arith}
-use Rattle.poet.proofs.Made.{made}
+use Rattle.block.proofs.Made.{made}
 use Rattle.forms.specs.Double.{moved}
 use Rattle.forms.proofs.Doubles.{doubled}
 use Rattle.digests.proofs.doubling.double.Goals as goal

@@ -1,6 +1,6 @@
 use Rattle.std.proofs.Common.{◌≡◌, length, rules}
-use Rattle.poet.specs.Bytes.{Bytes}
-use Rattle.poet.proofs.Xors.{bytes_from}
+use Rattle.block.specs.Bytes.{Bytes}
+use Rattle.block.proofs.Xors.{bytes_from}
 use Rattle.wire.specs.Wire.{parts_of}
 use Rattle.report.proofs.Delivering.{refused}
 use Rattle.report.proofs.report.list.Goals as goal

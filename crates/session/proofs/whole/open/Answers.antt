@@ -1,6 +1,6 @@
 use Rattle.std.proofs.Common.{Ok, Err, arith, rules}
 use Rattle.std.proofs.lemmas.Result.{err_from_is_err_and}
-use Rattle.poet.proofs.Xors.{bytes_from}
+use Rattle.block.proofs.Xors.{bytes_from}
 use Rattle.session.proofs.Judging.{open_refused, open_zeros, zeros_rest, body_refuses, tag_refuses, room, run_given}
 use Rattle.session.proofs.whole.open.Goals as goal
 

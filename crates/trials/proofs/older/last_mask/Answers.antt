@@ -1,5 +1,5 @@
 use Rattle.std.proofs.Common.{◌≡◌, ◌<◌, ◌∙◌, sym, ap, length, rules, arith}
-use Rattle.poet.specs.Bytes.{◌⊕◌}
+use Rattle.block.specs.Bytes.{◌⊕◌}
 use Rattle.forms.specs.Double.{double}
 use Rattle.trials.specs.Olders.{last_whole, last_filled}
 use Rattle.trials.proofs.older.last_mask.Goals as goal

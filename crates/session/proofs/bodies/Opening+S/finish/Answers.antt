@@ -1,7 +1,7 @@
 use Rattle.std.proofs.Common.{◌≡◌, ℕ, length, replicate, Ok, Err, refl, ap, arith, rules}
 use Rattle.std.proofs.lemmas.Result.{err_from_is_err_and}
 use Rattle.fault.specs.declared.kinds.SessionFault.TheVariants.{Empty}
-use Rattle.poet.proofs.Xors.{bytes_from}
+use Rattle.block.proofs.Xors.{bytes_from}
 use Rattle.session.specs.Runs.{Run}
 use Rattle.session.specs.Sessions.{SessionAt, opening_check}
 use Rattle.session.proofs.ByChecks.{OpenedBy, open_end}

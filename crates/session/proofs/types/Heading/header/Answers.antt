@@ -1,5 +1,5 @@
 use Rattle.std.proofs.Common.{◌≡◌, ◌+◌, false, ltb, length, sym, ap, ◌∙◌, append_assoc, arith, length-append, rules, le-ltb}
-use Rattle.poet.proofs.Xors.{bytes_append, bytes_from}
+use Rattle.block.proofs.Xors.{bytes_append, bytes_from}
 use Rattle.poet.specs.Seal.{header_most}
 use Rattle.session.proofs.types.Heading.header.Goals as goal
 

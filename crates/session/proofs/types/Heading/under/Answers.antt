@@ -1,5 +1,5 @@
 use Rattle.std.proofs.Common.{refl, ap, arith, rules}
-use Rattle.poet.proofs.Xors.{bytes_nil, bytes_from}
+use Rattle.block.proofs.Xors.{bytes_nil, bytes_from}
 use Rattle.session.proofs.types.Heading.under.Goals as goal
 
 pub returns : goal.returns

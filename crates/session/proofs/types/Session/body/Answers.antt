@@ -1,6 +1,6 @@
 use Rattle.std.proofs.Common.{◌≡◌, ℕ, ◌+◌, ◌*◌, ◌/◌, true, false, ltb, ◌++◌, length, take, drop, refl, ap, ap₂, arith, length-append, length-drop, length-take, rules, le-ltb, lt-ltb}
 use Rattle.poet.specs.Rows.{whole, start}
-use Rattle.poet.proofs.Xors.{bytes_append, bytes_from}
+use Rattle.block.proofs.Xors.{bytes_append, bytes_from}
 use Rattle.poet.specs.Seal.{body_most}
 use Rattle.session.specs.Directions.{picks, turns}
 use Rattle.session.specs.Runs.{Run, bodied}

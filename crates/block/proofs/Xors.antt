@@ -2,7 +2,7 @@
 use Rattle.std.proofs.Common.{◌≡◌, ℕ, zero, suc, ◌<◌, List, [], ◌∷◌, ◌++◌, length, get_or, take, drop, replicate, sym, refl, ap, ◌∙◌, arith}
 use lib.Bits.{bit_xor, xor_assoc, xor_self, xor_zero_r, xor_lt, xor_comm}
 use native.Mathlib.Nat.{suc_inj}
-use Rattle.poet.specs.Bytes.{Bytes, Block, ◌⊕◌}
+use Rattle.block.specs.Bytes.{Bytes, Block, ◌⊕◌}
 
 pub bytes_nil : Bytes []
 unfolding Bytes

@@ -1,10 +1,10 @@
 use Rattle.std.proofs.Common.{◌≡◌, get_or, sym, ◌∙◌, rules, arith}
 use lib.Bits.{bit_xor}
 use Rattle.std.proofs.lemmas.List.{ext_get_or}
-use Rattle.poet.specs.Bytes.{◌⊕◌}
-use Rattle.poet.proofs.Made.{made}
-use Rattle.poet.proofs.Xors.{length_xor, get_or_xor}
-use Rattle.poet.proofs.xor.Goals as goal
+use Rattle.block.specs.Bytes.{◌⊕◌}
+use Rattle.block.proofs.Made.{made}
+use Rattle.block.proofs.Xors.{length_xor, get_or_xor}
+use Rattle.block.proofs.xor.Goals as goal
 
 pub returns : goal.returns
 returns c =

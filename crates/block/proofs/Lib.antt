@@ -1,0 +1,3 @@
+pub mod Made
+pub mod Xors
+pub mod Completing
