@@ -10,7 +10,7 @@ use Rattle.report.specs.Lists.{list_of}
 
 -- a good entry's line has room in a row of 70 bytes
 pub row_fits : LineLaw → (e : Item) (old new : List ℕ) (f : Placed SheetFault) → length old ≡ 70 → Lined old new 0 e (Err f) → Good e → ⊥
-row_fits law e old new f l s g = ⊎_elim (λ v. v.1 g) (λ r. omega (arith, r.2, (law e g).0)) s.2
+row_fits law e old new f l s g = ⊎_elim (λ v. v.1 g) (λ r. omega (arith, r.2, (law e g).0)) s.1
 
 -- The lines so far of a sheet with the entries es, and the entries that are left to the reader.
 abbrev pub Sofar : (r : Reader) (text : List ℕ) (es : List Item) → Type 0
