@@ -13,18 +13,26 @@ use Rattle.poet.specs.Seal.{Seals}
 use Rattle.session.specs.Calls.{forged, open_checks, OpenCall}
 use Rattle.session.proofs.Bytewise.{zeroed}
 use Rattle.session.proofs.Passing.{fits}
-use Rattle.sheet.specs.Entries.{Item, sheet_of}
+use Rattle.sheet.specs.Entries.{Item, AllGood, sheet_of}
 use Rattle.sheet.specs.Calls.{Tested}
 use Rattle.sheet.proofs.Decoding.{unique}
+use Rattle.sheet.proofs.Writes.{sheets}
 use Rattle.delivery.specs.Told.{not_listed}
 use Rattle.delivery.specs.Sheets.{SheetSeals, SheetOpened, SheetCall, SheetUnder, lifted}
+
+-- a list that is written and sealed is good, and its bytes are what was sealed
+pub sheet_good : (f : Functions) (H : List ℕ) (es : List Item) (C T : List ℕ) → SheetSeals f H es C T → AllGood es
+sheet_good f H es C T s = ((sheets es s.sheet).0 s.written).0
+
+pub sheet_seals : (f : Functions) (H : List ℕ) (es : List Item) (C T : List ℕ) → SheetSeals f H es C T → Seals f H (sheet_of es) C T
+sheet_seals f H es C T s = subst (λ (M : List ℕ). Seals f H M C T) ((sheets es s.sheet).0 s.written).1 s.seals
 
 module _ (under : List ℕ → Functions) (key H C T o m : List ℕ) where
   -- a refusal of the opening, that `?` hands on
   refused : (e : Placed SessionFault) (x : Placed SheetFault) → HandedOn session_faults sheet_faults Session e x → OpenCall under key H C T o m (Err e) → SheetCall under key H C T o m (Err x)
   refused e x h s = record {
     refused = λ d q. let r = s.refused d q in (handed session_faults sheet_faults Session d e x h r.0, r.1);
-    accepts = λ k l. ((λ i. absurd cc), (λ p. (s.accepts k l).1 (sheet_of p.0, p.1.seals)));
+    accepts = λ k l. ((λ i. absurd cc), (λ p. (s.accepts k l).1 (p.1.sheet, p.1.seals)));
     entries = tt;
     broken =
         λ n.
@@ -45,13 +53,13 @@ module _ (under : List ℕ → Functions) (key H C T o m : List ℕ) where
         let i : j ≡ length C = je ∙ s.message.0 in
         let h = t.1 in
         let front : take (length C) m ≡ sheet_of t.0 = ap (λ (n : ℕ). take n m) (sym i) ∙ sym h.is in
-        let list : SheetSeals (under key) H t.0 C T = record { some = h.some; good = h.good; seals = subst (λ (M : List ℕ). Seals (under key) H M C T) (ap (λ (n : ℕ). take n m) s.message.0 ∙ front) s.message.1 } in
+        let list : SheetSeals (under key) H t.0 C T = record { some = h.some; sheet = sheet_of t.0; written = (sheets t.0 (sheet_of t.0)).1 (h.good, refl); seals = subst (λ (M : List ℕ). Seals (under key) H M C T) (ap (λ (n : ℕ). take n m) s.message.0 ∙ front) s.message.1 } in
         record {
           refused = λ d q. absurd (s.refused d q).0;
           accepts = λ k l. ((λ z. (t.0, list)), (λ p. refl));
           entries = (
             t.0,
-            record { list = list; only = λ fs g. unique fs t.0 g.good h.good (s.only (sheet_of fs) g.seals ∙ ap (λ (n : ℕ). take n m) s.message.0 ∙ front); front = front; rest = s.rest },
+            record { list = list; only = λ fs g. unique fs t.0 (sheet_good (under key) H fs C T g) h.good (s.only (sheet_of fs) (sheet_seals (under key) H fs C T g) ∙ ap (λ (n : ℕ). take n m) s.message.0 ∙ front); front = front; rest = s.rest },
             t.2,
           );
           broken = λ n. tt;
@@ -69,7 +77,7 @@ module _ (under : List ℕ → Functions) (key H C T o m : List ℕ) where
           refused = λ d c. absurd (s.refused d c).0;
           accepts = λ k b. (
             (λ y. absurd cc),
-            (λ p. absurd (t.0 p.0 (record { some = p.1.some; good = p.1.good; is = s.only (sheet_of p.0) p.1.seals ∙ ap (λ (n : ℕ). take n m) (sym je) }))),
+            (λ p. absurd (t.0 p.0 (record { some = p.1.some; good = sheet_good (under key) H p.0 C T p.1; is = s.only (sheet_of p.0) (sheet_seals (under key) H p.0 C T p.1) ∙ ap (λ (n : ℕ). take n m) (sym je) }))),
           );
           entries = tt;
           broken = λ n. record { why = inr (take j m, seals, t.1); zeros = z };

@@ -8,19 +8,21 @@ use Rattle.fault.specs.Refusals.{Refusal, inside, IsRefusal, Refuses, sheet_faul
 use Rattle.poet.specs.Functions.{Functions}
 use Rattle.poet.specs.Seal.{Seals}
 use Rattle.session.specs.Calls.{open_checks, forged}
-use Rattle.sheet.specs.Entries.{Item, AllGood, sheet_of}
+use Rattle.sheet.specs.Entries.{Item, sheet_of}
 use Rattle.sheet.specs.Calls.{Broken}
+use Rattle.sheet.specs.Laws.{WrittenFromStart}
 use Rattle.suites.specs.declared.listed.Listed.{Listed}
 use Rattle.suites.specs.Listed.{listed}
 use Rattle.delivery.specs.Told.{suite_of, not_listed}
 use Rattle.wire.specs.Wire.{Parts}
 
--- Under the header H, a list of one or more good entries is written and sealed to the ciphertext C
--- and the tag T.
+-- A list of one or more entries, written by write calls from place 0, end to end and none refused, and
+-- then sealed under the header H, gives the ciphertext C and the tag T.
 pub record SheetSeals (f : Functions) (H : List ℕ) (es : List Item) (C T : List ℕ) : Type 0 where
   pub some : 0 < length es
-  pub good : AllGood es
-  pub seals : Seals f H (sheet_of es) C T
+  pub sheet : List ℕ
+  pub written : WrittenFromStart es sheet
+  pub seals : Seals f H sheet C T
 
 -- a refusal of the session, as the sheet's fault holds it
 abbrev pub lifted : Refusal SessionFault → Refusal SheetFault

@@ -81,12 +81,13 @@ given_of t = (writes t, t - writes t)
 abbrev pub held : Run → ℕ
 held R = length R.body - length R.out
 
--- A finish is refused where no body was taken, and an opening's where the tag has not sixteen
--- bytes.
-abbrev pub sealing_check : Run → Option (Refusal SessionFault)
-sealing_check R = if length R.body == 0 then Some (refusal Empty 7 SessionLayer 0) else None
+-- A finish is refused where no body was taken; `more` is the check that comes after this.
+abbrev pub finish_check : Run → Option (Refusal SessionFault) → Option (Refusal SessionFault)
+finish_check R more = if length R.body == 0 then Some (refusal Empty 7 SessionLayer 0) else more
 
+abbrev pub sealing_check : Run → Option (Refusal SessionFault)
+sealing_check R = finish_check R None
+
+-- an opening's also where the tag has not sixteen bytes
 abbrev pub opening_check : Run → (T : List ℕ) → Option (Refusal SessionFault)
-opening_check R T =
-    if length R.body == 0 then Some (refusal Empty 7 SessionLayer 0)
-    else tag_check T (length R.body)
+opening_check R T = finish_check R (tag_check T (length R.body))
