@@ -1,9 +1,11 @@
 // Writing of entries: their bytes, how many fields they have, each bound of a value and one past it, and what a buffer then holds.
-use crate::samples::{LONGEST, SHORTEST, kept, lacks_room, refuses};
+use crate::samples::{LONGEST, SHORTEST, kept, lacks_room, refused, refuses};
+use crate::vectors::SHEET;
+use fault::kinds::SheetFault;
 use sheet::entry::Entry;
 use sheet::reader::Reader;
 use sheet::whole::test;
-use sheet::writing::{fields, write};
+use sheet::writing::{fields, write, write_all};
 use std::alloc::Global;
 use std::fmt::Display;
 use std::process::Abort;
@@ -130,4 +132,42 @@ fn texts(rt: HostRuntime) -> Result<(), Fail> {
         tried(&rt, heap, e, good, &format_args!("drawing {i}"))?;
     }
     tried(&rt, heap, LONGEST, true, &"the longest")
+}
+
+const THREE: [Entry<&'static [u8]>; 3] = [
+    SHORTEST,
+    LONGEST,
+    Entry {
+        drawing: Some(b"A/1"),
+        ..SHORTEST
+    },
+];
+
+// A list written at once leaves the sheet that write calls end to end leave, or nothing.
+#[test]
+fn whole_lists(rt: HostRuntime) {
+    let mut buf = [0xee; 90];
+    assert_eq!(rt; write_all(&THREE, &mut buf), Ok(84));
+    assert!(rt; &buf[0..84] == SHEET.as_slice(), "other sheet");
+    kept(&rt, &buf, 0, 84, &"a list");
+    let mut small = [0xee; 83];
+    assert_eq!(rt;
+        write_all(&THREE, &mut small),
+        refused(SheetFault::Room, 68)
+    );
+    kept(&rt, &small, 0, 0, &"a list without room");
+    let broken = [
+        SHORTEST,
+        Entry {
+            count: 0,
+            ..LONGEST
+        },
+        SHORTEST,
+    ];
+    assert_eq!(rt;
+        write_all(&broken, &mut buf),
+        refused(SheetFault::Value, 12)
+    );
+    assert!(rt; &buf[0..84] == SHEET.as_slice(), "a refusal wrote");
+    assert_eq!(rt; write_all(&[], &mut buf), Ok(0));
 }
