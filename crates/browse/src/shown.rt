@@ -1,52 +1,58 @@
-// What a call answered, as a line.
+//! What a call answered, as a line.
+ghost use Rattle.std.specs.Prelude.{OnOk, Some};
+ghost use Rattle.std.specs.Io.KnownBytes.{Appends};
+ghost use Rattle.sheet.specs.Entries.{Good, item_of};
+ghost use Rattle.listing.specs.Lines.{line_of};
+ghost use Rattle.browse.specs.Shown.{a_line, field_text, reply_text};
+
 use fault::shown::Fault;
 use listing::line::line;
-use reading::script::Reply;
+use reading::Reply;
 use sheet::entry::{Entry, Field};
-use std::io::Write;
+use std::io;
+use std::io::{Error, ErrorKind, Write};
+use streams::put;
 
-pub(crate) fn show(rt: &HostRuntime, reply: &Reply) -> anyhow::Result<()> {
+/// Writes the text for a reply.
+pub(crate) fn show<W: Write>(output: &mut W, reply: Reply<'_>) -> io::Result<()>
+    ensures { OnOk result (Appends (W.contents output.old) (W.contents output.new) (reply_text reply.entry)) }
+{
     match reply {
-        Reply::Next(Ok(Some(entry))) => show_entry(rt, entry),
-        Reply::Next(Ok(None)) => Ok(println!(rt; "end")?),
+        Reply::Next(Ok(Some(entry))) => show_entry(output, entry),
+        Reply::Next(Ok(None)) => put(output, b"end\n"),
         Reply::Next(Err(fault)) => {
             let number = fault.fault.number();
-            Ok(println!(rt; "refused {number}")?)
+            writeln!(output, "refused {number}")
         }
-        Reply::Field(None) => Ok(println!(rt; "absent")?),
-        Reply::Field(Some(field)) => show_field(rt, field),
+        Reply::Field(None) => put(output, b"absent\n"),
+        Reply::Field(Some(field)) => show_field(output, field),
     }
 }
 
-fn show_field(rt: &HostRuntime, field: &Field<Vec<u8>>) -> anyhow::Result<()> {
+fn show_field<W: Write>(output: &mut W, field: Field<&[u8]>) -> io::Result<()>
+    ensures { OnOk result (Appends (W.contents output.old) (W.contents output.new) (a_line (field_text field.entry))) }
+{
     match field {
-        Field::Code(s) | Field::Parent(s) | Field::Drawing(s) => show_text(rt, s),
-        Field::Count(n) | Field::Months(n) => Ok(println!(rt; "{n}")?),
-        Field::Landing(z) => Ok(println!(rt; "{z}")?),
+        Field::Code(s) | Field::Parent(s) | Field::Drawing(s) => show_text(output, s),
+        Field::Count(n) | Field::Months(n) => writeln!(output, "{n}"),
+        Field::Landing(z) => writeln!(output, "{z}"),
     }
 }
 
-fn show_text(rt: &HostRuntime, s: &[u8]) -> anyhow::Result<()> {
-    rt.stdout().write_all(s)?;
-    Ok(println!(rt; "")?)
+fn show_text<W: Write>(output: &mut W, s: &[u8]) -> io::Result<()>
+    ensures { OnOk result (Appends (W.contents output.old) (W.contents output.new) (a_line s.now)) }
+{
+    put(output, s)?;
+    put(output, b"\n")
 }
 
 // An entry as its line of the list.
-fn show_entry(rt: &HostRuntime, e: &Entry<Vec<u8>>) -> anyhow::Result<()> {
-    let entry = Entry {
-        code: e.code.as_slice(),
-        parent: e.parent.as_deref(),
-        count: e.count,
-        landing: e.landing,
-        months: e.months,
-        drawing: e.drawing.as_deref(),
-    };
+fn show_entry<W: Write>(output: &mut W, entry: Entry<&[u8]>) -> io::Result<()>
+    ensures { OnOk result (Appends (W.contents output.old) (W.contents output.new) (line_of (item_of entry.entry))) }
+{
     let mut row = [0; 70];
     match line(entry, &mut row, 0) {
-        Ok(n) => Ok(rt.stdout().write_all(&row[0..n])?),
-        Err(fault) => {
-            let number = fault.fault.number();
-            Ok(println!(rt; "refused {number}")?)
-        }
+        Ok(end) => put(output, &row[..end]),
+        Err(_) => Err(Error::from(ErrorKind::InvalidData)),
     }
 }

@@ -1,50 +1,111 @@
--- One call on a reader, and a list of calls.
-use Rattle.std.proofs.Common.{◌≡◌, ℕ, zero, suc, ◌+◌, ◌-◌, ◌<◌, List, [], ◌∷◌, ◌++◌, map, length, get_or, take, drop, Some, None, Option, sym, refl, ap, ◌∙◌, append_assoc, arith}
-use Rattle.std.proofs.lemmas.List.{at_drop_more, map_push}
+-- Calls on a reader, and what the replies come to.
+use Rattle.std.proofs.Common.{◌≡◌, ℕ, zero, suc, ◌+◌, ◌-◌, ◌<◌, List, [], ◌∷◌, ◌++◌, length, get_or, take, drop, Some, None, Ok, Err, Bor, Option, Result, sym, refl, ap, ◌∙◌, subst, arith, ◌≤◌, add-one, append_assoc, append-nil, take_all, drop_of_length-le, length-drop, length-append}
+use Rattle.std.proofs.Math.ListN.{set}
+use Rattle.std.proofs.Math.Seq.{take-suc-set}
+use Rattle.std.proofs.lemmas.List.{at_drop_more, get_or-map, length-map, map-set}
+use Rattle.fault.specs.declared.kinds.SheetFault.{SheetFault}
+use Rattle.fault.specs.declared.kinds.Placed.{Placed}
 use Rattle.sheet.specs.declared.reader.Reader.{Reader}
-use Rattle.sheet.specs.Entries.{Item}
+use Rattle.sheet.specs.Entries.{Item, AllGood, Lent, bytes, sheet_of}
+use Rattle.sheet.specs.Calls as calls
+use Rattle.sheet.specs.Calls.{Follows, AnsweredInPlace, InPlace, last_of}
 use Rattle.reading.specs.declared.script.Ask.{Ask}
 use Rattle.reading.specs.declared.script.Ask.TheVariants as ask
 use Rattle.reading.specs.declared.script.Reply.{Reply}
-use Rattle.reading.specs.Replies.{Said, replies, said, entries_in, ends_in, nexts, AllReplied}
-use Rattle.reading.specs.Readers.{ReaderAt, Replied}
+use Rattle.reading.specs.declared.script.Reply.TheVariants as reply
+use Rattle.reading.specs.declared.script.Call.{Call}
+use Rattle.reading.specs.Replies.{Answered, AllAnswered, asks_of, replies_of, entries_in, ends_in, nexts}
+use Rattle.reading.specs.Readers.{ReaderAt, LeadsOn, Replied}
+
+-- a next call
+module _ (r r' : Reader) (same : r'.sheet ≡ r.sheet) where
+  leads_by : (o : Result (Option Lent) (Placed SheetFault)) (es : List Item) → calls.Answered r.sheet.now r.place r'.place o → Follows r.sheet.now r'.place es o → r'.last ≡ last_of r.last o
+      → AnsweredInPlace r.sheet.ref_ptr r.place r'.place o → ReaderAt r es → LeadsOn r r' ask.Next (reply.Next o) es
+  leads_by (Ok None) [] answer follows last lies at = (
+    [],
+    record { good = tt; left = ap (λ (s : _). drop r'.place s.now) same ∙ follows },
+    λ qs rs h. (refl, subst (λ (n : ℕ). Answered r.sheet.ref_ptr n r.last [] qs rs) answer.1 (subst (λ (l : Option Lent). Answered r.sheet.ref_ptr r'.place l [] qs rs) last h)),
+  )
+  leads_by (Ok None) (e ∷ es) answer follows last lies at = absurd follows
+  leads_by (Ok (Some x)) [] answer follows last lies at = absurd follows
+  leads_by (Ok (Some x)) (e ∷ es) answer follows last lies at =
+      let b = r.sheet.ref_ptr in
+      let l : length (drop r.place r.sheet.now) ≡ length (bytes e) + length (sheet_of es) = ap length at.left ∙ length-append (bytes e) (sheet_of es) in
+      let k : length (drop r'.place r.sheet.now) ≡ length (sheet_of es) = ap length follows.1 in
+      let placed : r'.place ≡ r.place + length (bytes e) = omega (arith, length-drop r.place r.sheet.now, length-drop r'.place r.sheet.now) in (
+        es,
+        record { good = at.good.1; left = ap (λ (s : _). drop r'.place s.now) same ∙ follows.1 },
+        λ qs rs h.
+            (x, refl, follows.0, subst (λ (n : ℕ). InPlace b r.place n x) placed lies, subst (λ (n : ℕ). Answered b n (Some x) es qs rs) placed (subst (λ (l : Option Lent). Answered b r'.place l es qs rs) last h)),
+      )
+  leads_by (Err f) [] answer follows last lies at = absurd follows
+  leads_by (Err f) (e ∷ es) answer follows last lies at = absurd follows
+
+  pub next_replied : (o : Result (Option Lent) (Placed SheetFault)) → calls.Answered r.sheet.now r.place r'.place o → ((es : List Item) → AllGood es → drop r.place r.sheet.now ≡ sheet_of es → Follows r.sheet.now r'.place es o) → r'.last ≡ last_of r.last o
+      → AnsweredInPlace r.sheet.ref_ptr r.place r'.place o → Replied r r' ask.Next (reply.Next o)
+  next_replied o answer follows last lies = record { same = same; leads = λ es at. leads_by o es answer (follows es at.good at.left) last lies at }
+
+-- The replies so far, in the first i of the calls cs, on a new reader over the entries es: with those that are still to come, they are all.
+abbrev pub Sofar : (r : Reader) (cs cs' : List Call) (i : ℕ) (es : List Item) → Type 0
+Sofar r cs cs' i es = (rest : List Item) × ReaderAt r rest
+    × ((rs : List (Option Reply)) → Answered r.sheet.ref_ptr r.place r.last rest (drop i (asks_of cs)) rs → Answered r.sheet.ref_ptr 0 None es (asks_of cs) (take i (replies_of cs') ++ rs))
+
+pub one_more : (r r' : Reader) (cs cs' : List Call) (i : ℕ) (c : Call) (a : Reply) (es : List Item) → i < length cs' → asks_of cs' ≡ asks_of cs → c ≡ get_or cs' i (record { ask = ask.Next; reply = None }) → Replied r r' c.ask a
+    → Sofar r cs cs' i es → Sofar r' cs (set cs' i (record { ask = c.ask; reply = Some a })) (i + 1) es
+one_more r r' cs cs' i c a es l same ce replied (rest, at, more) =
+    let d : Call = record { ask = ask.Next; reply = None } in
+    let qs = asks_of cs in
+    let b = r.sheet.ref_ptr in
+    let (rest', at', lead) = replied.leads rest at in
+    let m : i < length qs = omega (arith, length-map cs' (λ (x : Call). x.ask), ap length same) in
+    let q : get_or qs i ask.Next ≡ c.ask = ap (λ (x : List Ask). get_or x i ask.Next) (sym same) ∙ get_or-map (λ (x : Call). x.ask) cs' i d ask.Next l ∙ ap (λ (x : Call). x.ask) (sym ce) in
+    let split : drop i qs ≡ c.ask ∷ drop (i + 1) qs = at_drop_more (λ (x : List Ask). x) qs i ask.Next m ∙ ap (λ (x : Ask). x ∷ drop (i + 1) qs) q in
+    let n : i < length (replies_of cs') = omega (arith, length-map cs' (λ (x : Call). x.reply)) in
+    let c' : Call = record { ask = c.ask; reply = Some a } in
+    let sofar : take (i + 1) (replies_of (set cs' i c')) ≡ take i (replies_of cs') ++ Some a ∷ [] =
+    ap (take (i + 1)) (map-set (λ (x : Call). x.reply) cs' i c') ∙ rw add-one (take-suc-set (replies_of cs') i (Some a) n) in (
+      rest',
+      at',
+      λ rs h.
+          let h' = subst (λ (x : Bor (List ℕ)). Answered x.ref_ptr r'.place r'.last rest' (drop (i + 1) qs) rs) replied.same h in
+          let all = more (Some a ∷ rs) (subst (λ (x : List Ask). Answered b r.place r.last rest x (Some a ∷ rs)) (sym split) (lead (drop (i + 1) qs) rs h')) in
+          subst (λ (x : Bor (List ℕ)). Answered x.ref_ptr 0 None es qs (take (i + 1) (replies_of (set cs' i c')) ++ rs)) (sym replied.same)
+          (subst (Answered b 0 None es qs) (sym (ap (λ (x : List (Option Reply)). x ++ rs) sofar ∙ append_assoc (take i (replies_of cs')) (Some a ∷ []) rs)) all),
+    )
+
+-- all of them
+pub no_more : (r : Reader) (cs cs' : List Call) (i : ℕ) (es : List Item) → length cs' ≤ i → asks_of cs' ≡ asks_of cs → Sofar r cs cs' i es → Answered r.sheet.ref_ptr 0 None es (asks_of cs) (replies_of cs')
+no_more r cs cs' i es l same (rest, at, more) =
+    let qs = asks_of cs in
+    let none : drop i qs ≡ [] = drop_of_length-le qs (omega (arith, length-map cs' (λ (x : Call). x.ask), ap length same)) in
+    let all : take i (replies_of cs') ++ [] ≡ replies_of cs' = append-nil (take i (replies_of cs')) ∙ take_all i (replies_of cs') (omega (arith, length-map cs' (λ (x : Call). x.reply))) in
+    subst (Answered r.sheet.ref_ptr 0 None es qs) all (more [] (subst (λ (x : List Ask). Answered r.sheet.ref_ptr r.place r.last rest x []) (sym none) tt))
 
 -- the entries and the ends among the replies
 take_none : (n : ℕ) → take {A = Item} n [] ≡ []
 take_none zero = refl
 take_none (suc n) = refl
 
-pub entries_are : (last : Option Item) (es : List Item) (qs : List Ask) → entries_in (replies last es qs) ≡ take (nexts qs) es
-entries_are last [] [] = refl
-entries_are last (e ∷ es) [] = refl
-entries_are last [] (ask.Next ∷ qs) = entries_are last [] qs ∙ take_none (nexts qs)
-entries_are last (e ∷ es) (ask.Next ∷ qs) = ap (λ x. e ∷ x) (entries_are (Some e) es qs)
-entries_are last [] (ask.Field k ∷ qs) = entries_are last [] qs
-entries_are last (e ∷ es) (ask.Field k ∷ qs) = entries_are last (e ∷ es) qs
+pub entries_are : (qs : List Ask) (rs : List (Option Reply)) (b : ℕ × ℕ) (p : ℕ) (last : Option Lent) (es : List Item) → Answered b p last es qs rs → entries_in rs ≡ take (nexts qs) es
+entries_are [] [] b p last [] h = refl
+entries_are [] [] b p last (e ∷ es) h = refl
+entries_are (ask.Next ∷ qs) (r ∷ rs) b p last [] h = ap (λ (x : Option Reply). entries_in (x ∷ rs)) h.0 ∙ entries_are qs rs b p last [] h.1 ∙ take_none (nexts qs)
+entries_are (ask.Next ∷ qs) (r ∷ rs) b p last (e ∷ es) h =
+    ap (λ (x : Option Reply). entries_in (x ∷ rs)) h.1 ∙ ap (λ (i : Item). i ∷ entries_in rs) h.2 ∙ ap (λ (is : List Item). e ∷ is) (entries_are qs rs b (p + length (bytes e)) (Some h.0) es h.4)
+entries_are (ask.Field k ∷ qs) (r ∷ rs) b p last [] h = ap (λ (x : Option Reply). entries_in (x ∷ rs)) h.0 ∙ entries_are qs rs b p last [] h.1
+entries_are (ask.Field k ∷ qs) (r ∷ rs) b p last (e ∷ es) h = ap (λ (x : Option Reply). entries_in (x ∷ rs)) h.0 ∙ entries_are qs rs b p last (e ∷ es) h.1
+entries_are [] (r ∷ rs) b p last es h = absurd h
+entries_are (q ∷ qs) [] b p last es h = absurd h
 
-pub ends_are : (last : Option Item) (es : List Item) (qs : List Ask) → ends_in (replies last es qs) ≡ nexts qs - length es
-ends_are last [] [] = refl
-ends_are last (e ∷ es) [] = omega arith
-ends_are last [] (ask.Next ∷ qs) = omega (arith, ends_are last [] qs)
-ends_are last (e ∷ es) (ask.Next ∷ qs) = omega (arith, ends_are (Some e) es qs)
-ends_are last [] (ask.Field k ∷ qs) = ends_are last [] qs
-ends_are last (e ∷ es) (ask.Field k ∷ qs) = ends_are last (e ∷ es) qs
+pub ends_are : (qs : List Ask) (rs : List (Option Reply)) (b : ℕ × ℕ) (p : ℕ) (last : Option Lent) (es : List Item) → Answered b p last es qs rs → ends_in rs ≡ nexts qs - length es
+ends_are [] [] b p last [] h = refl
+ends_are [] [] b p last (e ∷ es) h = omega arith
+ends_are (ask.Next ∷ qs) (r ∷ rs) b p last [] h = ap (λ (x : Option Reply). ends_in (x ∷ rs)) h.0 ∙ omega (arith, ends_are qs rs b p last [] h.1)
+ends_are (ask.Next ∷ qs) (r ∷ rs) b p last (e ∷ es) h = ap (λ (x : Option Reply). ends_in (x ∷ rs)) h.1 ∙ omega (arith, ends_are qs rs b (p + length (bytes e)) (Some h.0) es h.4)
+ends_are (ask.Field k ∷ qs) (r ∷ rs) b p last [] h = ap (λ (x : Option Reply). ends_in (x ∷ rs)) h.0 ∙ ends_are qs rs b p last [] h.1
+ends_are (ask.Field k ∷ qs) (r ∷ rs) b p last (e ∷ es) h = ap (λ (x : Option Reply). ends_in (x ∷ rs)) h.0 ∙ ends_are qs rs b p last (e ∷ es) h.1
+ends_are [] (r ∷ rs) b p last es h = absurd h
+ends_are (q ∷ qs) [] b p last es h = absurd h
 
--- The replies ss so far, to the first i of the calls qs on a new reader over the entries es: with those that are still to come, they are all.
-abbrev pub Sofar : (r : Reader) (ss : List Said) (qs : List Ask) (i : ℕ) (es : List Item) → Type 0
-Sofar r ss qs i es = (last : Option Item) × (rest : List Item) × ReaderAt r last rest × (ss ++ replies last rest (drop i qs) ≡ replies None es qs)
-
-pub one_more : (r r' : Reader) (v v' : List Reply) (x : Reply) (qs : List Ask) (i : ℕ) (es : List Item) → i < length qs → v' ≡ v ++ x ∷ [] → Replied r r' (get_or qs i ask.Next) (said x) → Sofar r (map said v) qs i es → Sofar r' (map said v') qs (i + 1) es
-one_more r r' v v' x qs i es l ve replied (last, rest, at, e) =
-    let a = replied last rest at in
-    let R = replies a.0 a.1 (drop (i + 1) qs) in
-    let m : map said v' ≡ map said v ++ said x ∷ [] = ap (map said) ve ∙ map_push said v x in (
-      a.0,
-      a.1,
-      a.2,
-      ap (λ (y : List Said). y ++ R) m ∙ append_assoc (map said v) (said x ∷ []) R ∙ ap (λ (y : List Said). map said v ++ y) (sym (a.3 (drop (i + 1) qs)) ∙ sym (at_drop_more (replies last rest) qs i ask.Next l)) ∙ e,
-    )
-
--- the replies to all calls
-pub replied_to : (es : List Item) (qs : List Ask) (ss : List Said) → ss ≡ replies None es qs → AllReplied es qs ss
-replied_to es qs ss e = record { each = e; entries = ap entries_in e ∙ entries_are None es qs; ends = ap ends_in e ∙ ends_are None es qs }
+pub all_answered : (b : ℕ × ℕ) (es : List Item) (cs cs' : List Call) → asks_of cs' ≡ asks_of cs → Answered b 0 None es (asks_of cs) (replies_of cs') → AllAnswered b es cs cs'
+all_answered b es cs cs' a h = record { asks = a; each = h; entries = entries_are (asks_of cs) (replies_of cs') b 0 None es h; ends = ends_are (asks_of cs) (replies_of cs') b 0 None es h }

@@ -1,3 +1,3 @@
 pub mod Replies
 pub mod Readers
-pub mod Plays
+pub mod Deliveries

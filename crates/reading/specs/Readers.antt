@@ -1,18 +1,21 @@
 -- A reader by the entries that are left to it, and one call on it.
-use Rattle.std.specs.Prelude.{◌≡◌, List, ◌∷◌, drop, Option}
-use Rattle.std.specs.Option.{option_map}
+use Rattle.std.specs.Prelude.{◌≡◌, List, ◌∷◌, drop, Some, Option}
 use Rattle.sheet.specs.declared.reader.Reader.{Reader}
-use Rattle.sheet.specs.Entries.{Item, AllGood, sheet_of, item_of}
+use Rattle.sheet.specs.Entries.{Item, AllGood, sheet_of}
 use Rattle.reading.specs.declared.script.Ask.{Ask}
-use Rattle.reading.specs.Replies.{Said, replies}
+use Rattle.reading.specs.declared.script.Reply.{Reply}
+use Rattle.reading.specs.Replies.{Answered}
 
--- good entries are left, and these are their bytes; and what the entry last answered says
-pub record ReaderAt (r : Reader) (last : Option Item) (es : List Item) : Type 0 where
+-- good entries are left, and these are their bytes
+pub record ReaderAt (r : Reader) (es : List Item) : Type 0 where
   pub good : AllGood es
   pub left : drop r.place r.sheet.now ≡ sheet_of es
-  pub last_is : option_map item_of r.last ≡ last
 
--- One call a on the reader r, which becomes r': the reply is the first of those to any calls from here on, and the others follow.
-abbrev pub Replied : (r r' : Reader) (a : Ask) → Said → Type 0
-Replied r r' a s = (last : Option Item) (es : List Item) → ReaderAt r last es
-    → (last' : Option Item) × (es' : List Item) × ReaderAt r' last' es' × ((qs : List Ask) → replies last es (a ∷ qs) ≡ s ∷ replies last' es' qs)
+-- One call q on the reader r, which becomes r', answered a: before the replies to any calls from there on, it makes the replies from here on.
+abbrev pub LeadsOn : (r r' : Reader) (q : Ask) (a : Reply) → List Item → Type 0
+LeadsOn r r' q a es = (es' : List Item) × ReaderAt r' es'
+    × ((qs : List Ask) (rs : List (Option Reply)) → Answered r.sheet.ref_ptr r'.place r'.last es' qs rs → Answered r.sheet.ref_ptr r.place r.last es (q ∷ qs) (Some a ∷ rs))
+
+pub record Replied (r r' : Reader) (q : Ask) (a : Reply) : Type 0 where
+  pub same : r'.sheet ≡ r.sheet
+  pub leads : (es : List Item) → ReaderAt r es → LeadsOn r r' q a es

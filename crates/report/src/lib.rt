@@ -1,7 +1,11 @@
-// The report on one delivery, from its bytes to the text that is printed.
-//
-// `report` parses a delivery, opens its sheet and lists it, and gives the text, the lines or the refusal; `lists` has the lines of a sheet.
+//! The report on one delivery, from its bytes to the text that is printed: the lines of its list, or its refusal.
+//!
+//! `print` takes the bytes and a writer, and `run` a reader too. `lines` has the lines of a sheet, `refusals` the line of a refusal. Nothing is
+//! put on the heap.
 #![tactic(auto)]
 
-mod lists;
-pub mod report;
+mod lines;
+mod printing;
+mod refusals;
+
+pub use printing::{print, run};

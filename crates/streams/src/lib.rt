@@ -2,9 +2,9 @@
 //! `write_all` do not.
 #![tactic(auto)]
 
-ghost use Rattle.std.specs.Prelude.{◌≡◌, ℕ, ◌+◌, ◌<◌, ◌≤◌, length, take, drop, IfOk, OnErr, OnOk};
+ghost use Rattle.std.specs.Prelude.{◌≡◌, ℕ, ◌+◌, ◌<◌, ◌≤◌, length, take, drop, IfOk, OnErr};
 ghost use Rattle.std.specs.Io.KnownBytes.{Appends, Consumes, IsAtEnd, Keeps};
-ghost use Rattle.streams.specs.Streams.{ReadsUpTo, WritesFront};
+ghost use Rattle.streams.specs.Streams.{ReadsUpTo, Wrote};
 
 use std::io;
 use std::io::{Error, ErrorKind, Read, Write};
@@ -74,8 +74,7 @@ fn read_once<R: Read>(reader: &mut R, buffer: &mut [u8]) -> io::Result<usize>
 ///
 /// What the writer fails with. Some first bytes are written then, maybe none.
 pub fn put<W: Write>(writer: &mut W, bytes: &[u8]) -> io::Result<()>
-    ensures whole { OnOk result (Appends (W.contents writer.old) (W.contents writer.new) bytes.now) }
-    ensures front { OnErr result (WritesFront (W.contents writer.old) (W.contents writer.new) bytes.now) }
+    ensures { Wrote (W.contents writer.old) (W.contents writer.new) bytes.now result }
 {
     let mut rest = bytes;
     for _ in 0..u64::MAX {

@@ -1,8 +1,9 @@
 -- A whole delivery: its parts one after the other, and that no two have the same bytes.
-use Rattle.std.proofs.Common.{◌≡◌, ℕ, ◌≤◌, List, [], ◌∷◌, ◌++◌, length, Some, None, Option, sym, refl, ◌∙◌}
+use Rattle.std.proofs.Common.{◌≡◌, ℕ, ◌≤◌, List, [], ◌∷◌, ◌++◌, length, Some, None, Option, sym, refl, ap, ◌∙◌}
 use Rattle.std.specs.Option.{ok_or}
 use Rattle.fault.specs.declared.kinds.ConsoleFault.{ConsoleFault}
 use Rattle.fault.specs.declared.kinds.Placed.{Placed}
+use Rattle.fault.specs.Refusals.{placed, console_faults}
 use Rattle.wire.specs.declared.parse.Delivery.{Delivery}
 use Rattle.wire.specs.Wire.{Parts, Limits, wire, malformed, parts_of, Parsed, Found, two_ahead, four_ahead}
 use Rattle.wire.proofs.Pieces.{separate, ahead_separate, two_coded, four_coded}
@@ -41,6 +42,6 @@ unique p q l m e =
     λ i. record { suite = s i; key = b.0 i; header = c.0 i; ciphertext = d.0 i; tag = d.1 i }
 
 -- with the refusal's place, and that the delivery is the only one
-pub parsed : (input : List ℕ) (e : Placed ConsoleFault) (o : Option Delivery) → e ≡ malformed (length input) → Found input o → Parsed input (ok_or o e)
+pub parsed : (input : List ℕ) (e : Placed ConsoleFault) (o : Option Delivery) → e ≡ placed (malformed (length input)) → Found input o → Parsed input (ok_or o e)
 parsed input e (Some d) h f = (f.0, f.1, λ p l g. unique p (parts_of d) l f.0 (g ∙ sym f.1))
-parsed input e None h f = (h, f)
+parsed input e None h f = (record { is = h; number = ap (λ (x : Placed ConsoleFault). console_faults.number x.fault) h; layer = ap (λ (x : Placed ConsoleFault). console_faults.layer x.fault) h }, f)

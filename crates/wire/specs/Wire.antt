@@ -3,7 +3,9 @@ use Rattle.std.specs.Prelude.{◌≡◌, ℕ, ◌/◌, ◌%◌, ◌≤◌, min, 
 use Rattle.std.specs.Borrow.{Bor}
 use Rattle.fault.specs.declared.kinds.ConsoleFault.{ConsoleFault}
 use Rattle.fault.specs.declared.kinds.ConsoleFault.TheVariants.{Input}
+use Rattle.fault.specs.declared.kinds.Layer.TheVariants.{Console as ConsoleLayer}
 use Rattle.fault.specs.declared.kinds.Placed.{Placed}
+use Rattle.fault.specs.Refusals.{Refusal, refusal, IsRefusal, console_faults}
 use Rattle.wire.specs.declared.parse.Delivery.{Delivery}
 
 -- the parts of a delivery
@@ -14,11 +16,21 @@ pub record Parts : Type 0 where
   pub ciphertext : List ℕ
   pub tag : List ℕ
 
--- how long each may be
+-- how long a header and a ciphertext may be, and one more than the longest delivery has
+abbrev pub header_limit : ℕ
+header_limit = 4096
+
+abbrev pub ciphertext_limit : ℕ
+ciphertext_limit = 16384
+
+abbrev pub input_limit : ℕ
+input_limit = 20520
+
+-- how long each part may be
 pub record Limits (p : Parts) : Type 0 where
   pub key_long : length p.key ≡ 16
-  pub header_most : length p.header ≤ 4096
-  pub ciphertext_most : length p.ciphertext ≤ 16384
+  pub header_most : length p.header ≤ header_limit
+  pub ciphertext_most : length p.ciphertext ≤ ciphertext_limit
   pub tag_long : length p.tag ≡ 16
 
 -- a number in two and in four bytes, big-endian
@@ -33,8 +45,8 @@ abbrev pub wire : Parts → List ℕ
 wire p = p.suite ∷ (p.key ++ (two (length p.header) ++ (p.header ++ (four (length p.ciphertext) ++ (p.ciphertext ++ p.tag)))))
 
 -- the refusal of n bytes that are no delivery
-abbrev pub malformed : ℕ → Placed ConsoleFault
-malformed n = record { fault = Input; place = min n 20520 }
+abbrev pub malformed : ℕ → Refusal ConsoleFault
+malformed n = refusal Input 1 ConsoleLayer (min n input_limit)
 
 -- what the slices of a parsed delivery hold
 abbrev pub parts_of : Delivery → Parts
@@ -43,7 +55,7 @@ parts_of d = record { suite = d.suite; key = d.key.now; header = d.header.now; c
 -- what parsing answers: the one delivery with these bytes, or a refusal where there is none
 abbrev pub Parsed : List ℕ → Result Delivery (Placed ConsoleFault) → Type 0
 Parsed input (Ok d) = Limits (parts_of d) × (wire (parts_of d) ≡ input) × ((p : Parts) → Limits p → wire p ≡ input → p ≡ parts_of d)
-Parsed input (Err e) = (e ≡ malformed (length input)) × ((p : Parts) → Limits p → wire p ≢ input)
+Parsed input (Err e) = IsRefusal console_faults (malformed (length input)) e × ((p : Parts) → Limits p → wire p ≢ input)
 
 -- the same, before a refusal has its place
 abbrev pub Found : List ℕ → Option Delivery → Type 0

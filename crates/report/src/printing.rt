@@ -1,0 +1,52 @@
+//! From an input to what is printed for it.
+ghost use Rattle.std.specs.Prelude.{◌≤◌, ℕ, List, length};
+ghost use Rattle.streams.specs.Streams.{Wrote};
+ghost use Rattle.report.specs.Report.{Judged, Printed};
+ghost use Rattle.report.specs.Runs.{Ran};
+
+use crate::lines::write_lines;
+use crate::refusals::line_of;
+use delivery::sheets::open_sheet;
+use fault::kinds::{ConsoleFault, Placed};
+use std::io;
+use std::io::{Read, Write};
+use streams::{fill, put};
+use wire::parse::{CIPHERTEXT_LIMIT, INPUT_LIMIT, parse};
+
+// Parses a delivery and opens its sheet into the front of a buffer, and answers how many bytes the sheet has.
+fn judge(input: &[u8], opened: &mut [u8]) -> Result<usize, Placed<ConsoleFault>>
+    requires { CIPHERTEXT_LIMIT ≤ length opened.old }
+    ensures { Judged input.now opened.new result }
+{
+    let delivery = parse(input)?;
+    let _count = open_sheet(delivery, opened)?;
+    Ok(delivery.ciphertext.len())
+}
+
+/// Writes the lines of the list that the input delivers, or the line of its refusal. Nothing is written before the whole sheet is judged.
+///
+/// # Errors
+///
+/// What the writer fails with. A front of the text is written then.
+pub fn print<W: Write>(input: &[u8], output: &mut W) -> io::Result<()>
+    ensures { (text : List ℕ) × Printed input.now text × Wrote (W.contents output.old) (W.contents output.new) text result }
+{
+    let mut opened = [0; CIPHERTEXT_LIMIT];
+    match judge(input, &mut opened) {
+        Ok(len) => write_lines(output, &opened[..len]),
+        Err(refused) => put(output, line_of(refused).as_slice()),
+    }
+}
+
+/// Reads an input and writes what is printed for it. No more than 20,520 bytes are read, one more than the longest delivery has.
+///
+/// # Errors
+///
+/// What the reader fails with, and then nothing is written; or what the writer fails with, and then a front of the text is written.
+pub fn run<R: Read, W: Write>(reader: &mut R, writer: &mut W) -> io::Result<()>
+    ensures { Ran (R.remaining reader.old) (R.remaining reader.new) (W.contents writer.old) (W.contents writer.new) result }
+{
+    let mut input = [0; INPUT_LIMIT];
+    let len = fill(reader, &mut input)?;
+    print(&input[..len], writer)
+}
