@@ -13,7 +13,7 @@ use Rattle.session.specs.Calls.{open_checks, forged}
 use Rattle.sheet.specs.Entries.{Item}
 use Rattle.delivery.specs.Told.{suite_of, not_listed}
 use Rattle.delivery.specs.Sheets.{SheetSeals, SheetCall, SheetUnder, lifted}
-use Rattle.delivery.proofs.Opening.{counted}
+use Rattle.delivery.proofs.Opening.{counted, sheet_good}
 use Rattle.wire.specs.declared.parse.Delivery.{Delivery}
 use Rattle.wire.specs.Wire.{Parts, Limits, parts_of, Parsed, ciphertext_limit}
 use Rattle.report.specs.Report.{Delivers, Refused, unlisted, no_body, no_seal, no_sheet, no_delivery, delivery, Judged, raised, within, empty}
@@ -105,7 +105,7 @@ module _ (input : List ℕ) (d : Delivery) (parsed : Parsed input (Ok d)) where
                 let q : h.under ≡ under = let x = h.listed in cc in
                 opened.only fs (subst (λ (u : List ℕ → Functions). SheetSeals (u (parts_of d).key) (parts_of d).header fs (parts_of d).ciphertext (parts_of d).tag) q h.list);
           },
-          opened.list.good,
+          sheet_good _ _ es _ _ opened.list,
           let r = room in omega arith,
           opened.front,
         )
