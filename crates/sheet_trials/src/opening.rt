@@ -89,7 +89,8 @@ fn largest_sheet(rt: HostRuntime) -> Result<(), Fail> {
     Ok(())
 }
 
-// Kept with a parameter for each value that a case expects. A delivery is refused with this number, fault and place. The buffer is as it was filled, but for zeros where a message was opened.
+// A delivery is refused with this number, fault and place. The buffer is as it was filled, but for
+// zeros where a message was opened.
 fn refuses(
     rt: &impl Abort,
     heap: Global,
@@ -267,7 +268,7 @@ fn refused_sheets(rt: HostRuntime) -> Result<(), Fail> {
     Ok(())
 }
 
-// The bytes with one bit turned, in each of them in turn. Kept a loop over places, as the place is what is damaged.
+// The bytes with one bit turned, in each of them in turn.
 fn each_damaged(heap: Global, bytes: &[u8]) -> Result<Vec<Vec<u8>>, AllocError> {
     let mut all = Vec::new(heap);
     for i in 0..bytes.len() {

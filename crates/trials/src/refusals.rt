@@ -10,8 +10,8 @@ const KEY: [u8; 16] = [0x2a; 16];
 
 const TAG: [u8; 16] = [0x55; 16];
 
-// What sealing answers for a key, a header, a body and room of these lengths; it checks that a refusal alters nothing. Kept with a parameter
-// for each length, here and in `opening`: the calls are read as rows of lengths.
+// What sealing answers for a key, a header, a body and room of these lengths; it checks that a
+// refusal alters nothing. The calls of this and of `opening` are read as rows of lengths.
 fn sealing(
     rt: &impl Abort,
     heap: Global,

@@ -1,0 +1,63 @@
+//! A seal row by row, from a suite's parts, as the equations of docs/FORMAT.md write it; and the
+//! same seal by the call.
+use crate::{KEY, value};
+use block::{complete, xor};
+use hexits::Hex;
+use session::seal;
+use std::io;
+use suite::{ChainingHash, HeaderDigest, Keyed, Permutation, Suite};
+
+// The longest message that is shown has three blocks.
+const MOST: usize = 48;
+
+/// Prints header, message and rows of one seal, and then its ciphertext and tag as `seal` gives
+/// them.
+pub(crate) fn show<S: Suite>(rt: &HostRuntime, header: &[u8], message: &[u8]) -> io::Result<()> {
+    let Keyed {
+        permutation,
+        hash,
+        mut digest,
+    } = S::set_up(KEY);
+    digest.absorb(header);
+    let tau = digest.finish();
+    let mut x = tau;
+    let mut y = xor(tau, S::encode(1));
+    println!(rt;)?;
+    value(rt, "header", header)?;
+    value(rt, "tau", &tau)?;
+    value(rt, "Y_0", &y)?;
+    value(rt, "message", message)?;
+
+    let (front, last) = message.split_at(message.len().saturating_sub(1) / 16 * 16);
+    for (i, block) in (1..MOST / 16).zip(front.chunks_exact(16)) {
+        x = xor(hash.hash(x), complete(block, &[0; 16]));
+        y = permutation.encrypt(x);
+        row(rt, i, &x, &y)?;
+    }
+    let mask = permutation.encrypt(S::encode(8 * message.len() as u64));
+    let filled = complete(last, &tau);
+    x = xor(xor(hash.hash(x), filled), mask);
+    let over = hash.hash(y);
+    y = permutation.encrypt(x);
+    let given = xor(xor(over, y), mask);
+    let inner = permutation.encrypt(xor(hash.hash(x), tau));
+    let z = xor(xor(hash.hash(y), inner), tau);
+    value(rt, "S", &mask)?;
+    value(rt, "M*", &filled)?;
+    row(rt, front.len() / 16 + 1, &x, &y)?;
+    value(rt, "C*", &given)?;
+    value(rt, "Z", &z)?;
+
+    let mut out = [0; MOST];
+    let mut tag = [0; 16];
+    match seal::<S>(&KEY, header, message, &mut out, &mut tag) {
+        Ok(n) => value(rt, "ciphertext", &out[..n.min(MOST)])?,
+        Err(fault) => println!(rt; "{fault}")?,
+    }
+    value(rt, "tag", &tag)
+}
+
+fn row(rt: &HostRuntime, i: usize, x: &[u8; 16], y: &[u8; 16]) -> io::Result<()> {
+    println!(rt; "X_{i:<9}{}", Hex(x))?;
+    println!(rt; "Y_{i:<9}{}", Hex(y))
+}
