@@ -1,5 +1,5 @@
 -- Nothing to believe: the suite is lawful.
-use Rattle.std.specs.Prelude.{ℕ, List, replicate, refl}
+use Rattle.std.specs.Prelude.{ℕ, List, refl}
 use Rattle.std.proofs.Common.{lit<}
 use Rattle.block.specs.Bytes.{Block, ◌⊕◌}
 use Rattle.block.specs.Permutes.{Permutes}

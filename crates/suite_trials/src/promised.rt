@@ -1,9 +1,11 @@
-// The calls under the suite, each with what it promises there.
-ghost use Rattle.delivery.specs.Sheets.{SheetBy, open_checks};
+// The calls under the suite, each with the promise that it makes under every suite. None needs a
+// proof: the call alone gives it.
+ghost use Rattle.delivery.specs.Sheets.{SheetOpened, SheetSeals};
+ghost use Rattle.poet.specs.Seal.{Seals};
 ghost use Rattle.reading.specs.Plays.{PlayedBy};
-ghost use Rattle.session.specs.Calls.{OpenCall, SealCall};
 ghost use Rattle.session.specs.Plays.{CoursePlayed};
-ghost use Rattle.std.specs.Prelude.{IfOk};
+ghost use Rattle.sheet.specs.Entries.{Item};
+ghost use Rattle.std.specs.Prelude.{◌≡◌, ◌≤◌, ◌↔◌, ℕ, List, length, take, IfOk, IsOk};
 ghost use Rattle.suite_trials.specs.Flipped.{flipped};
 
 use crate::flipped::Flipped;
@@ -25,8 +27,11 @@ pub fn seal(
     out: &mut [u8],
     tag: &mut [u8; 16],
 ) -> Result<usize, Placed<SessionFault>>
-    ensures { SealCall flipped key.now header.now message.now
-        out.old tag.old out.new tag.new result }
+    ensures accepts { length key.now ≡ 16 → length message.now ≤ length out.old
+        → IsOk result ↔ ((C : List ℕ) × (T : List ℕ)
+        × Seals (flipped key.now) header.now message.now C T) }
+    ensures seals { IfOk result (λ n. (n ≡ length message.now)
+        × Seals (flipped key.now) header.now message.now (take n out.new) tag.new) }
 {
     whole::seal::<Flipped>(key, header, message, out, tag)
 }
@@ -38,8 +43,11 @@ pub fn open(
     tag: &[u8],
     out: &mut [u8],
 ) -> Result<usize, Placed<SessionFault>>
-    ensures { OpenCall flipped key.now header.now ciphertext.now tag.now
-        out.old out.new result }
+    ensures accepts { length key.now ≡ 16 → length ciphertext.now ≤ length out.old
+        → IsOk result ↔ ((M : List ℕ)
+        × Seals (flipped key.now) header.now M ciphertext.now tag.now) }
+    ensures message { IfOk result (λ n. (n ≡ length ciphertext.now)
+        × Seals (flipped key.now) header.now (take n out.new) ciphertext.now tag.now) }
 {
     whole::open::<Flipped>(key, header, ciphertext, tag, out)
 }
@@ -64,8 +72,12 @@ pub fn open_sheet(
     tag: &[u8],
     out: &mut [u8],
 ) -> Result<usize, Placed<SheetFault>>
-    ensures { SheetBy (open_checks key.now header.now ciphertext.now tag.now out.old)
-        (flipped key.now) header.now ciphertext.now tag.now out.old out.new result }
+    ensures accepts { length key.now ≡ 16 → length ciphertext.now ≤ length out.old
+        → IsOk result ↔ ((es : List Item)
+        × SheetSeals (flipped key.now) header.now es ciphertext.now tag.now) }
+    ensures entries { IfOk result (λ n. (es : List Item)
+        × SheetOpened (flipped key.now) header.now ciphertext.now tag.now out.old out.new es
+        × (n ≡ length es)) }
 {
     open_sheet_as::<Flipped>(key, header, ciphertext, tag, out)
 }

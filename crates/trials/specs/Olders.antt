@@ -1,9 +1,9 @@
 -- Nothing to believe: the older digest goes on block by block, and its suites are lawful.
-use Rattle.std.specs.Prelude.{◌≡◌, ℕ, suc, ◌+◌, ◌-◌, ◌*◌, ◌/◌, ◌%◌, ◌<◌, ◌≤◌, Bool, true, false, cond, ◌&&◌, ltb, List, [], ◌∷◌, ◌++◌, length, take, replicate, ◌==◌, nat_lt, refl}
-use Rattle.std.proofs.Math.Path.{ap, ap₂}
-use Rattle.std.proofs.Common.{inl, inr, sym, ◌∙◌, arith, length-append, length-take, take_all}
+use Rattle.std.specs.Prelude.{◌≡◌, ℕ, suc, ◌-◌, ◌/◌, ◌%◌, ◌<◌, ◌≤◌, true, ltb, List, ◌∷◌, ◌++◌, length, take, replicate, ◌==◌, nat_lt}
+use Rattle.std.proofs.Math.Path.{ap}
+use Rattle.std.proofs.Common.{inl, inr, ◌∙◌, arith, length-append, length-take, take_all}
 use Rattle.std.proofs.lemmas.Bool.{lt-ltb, ltb-true, eqb-true, and_parts, cases_Bool, cond-false}
-use Rattle.block.specs.Bytes.{Bytes, Block, block, ◌⊕◌}
+use Rattle.block.specs.Bytes.{Bytes, Block, ◌⊕◌}
 use Rattle.poet.specs.Functions.{Lawful}
 use Rattle.poet.proofs.Rows.{block_block}
 use Rattle.block.proofs.Xors.{block_xor}

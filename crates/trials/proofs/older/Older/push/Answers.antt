@@ -1,4 +1,4 @@
-use Rattle.std.proofs.Common.{[], ◌∷◌, ◌++◌, ◌∙◌, take, ap, rules}
+use Rattle.std.proofs.Common.{[], ◌∷◌, ◌++◌, ◌∙◌, take, ap}
 use Rattle.trials.specs.Older.{older}
 use Rattle.trials.proofs.Pushing.{added}
 use Rattle.trials.proofs.older.Older.push.Goals as goal
