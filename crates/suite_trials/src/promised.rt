@@ -2,7 +2,7 @@
 // proof: the call alone gives it.
 ghost use Rattle.delivery.specs.Sheets.{SheetOpened, SheetSeals};
 ghost use Rattle.poet.specs.Seal.{Seals};
-ghost use Rattle.reading.specs.Plays.{PlayedBy};
+ghost use Rattle.reading.specs.Replies.{AllAnswered};
 ghost use Rattle.session.specs.Plays.{CoursePlayed};
 ghost use Rattle.sheet.specs.Entries.{Item};
 ghost use Rattle.std.specs.Prelude.{◌≡◌, ◌≤◌, ◌↔◌, ℕ, List, length, take, IfOk, IsOk};
@@ -10,10 +10,8 @@ ghost use Rattle.suite_trials.specs.Flipped.{flipped};
 
 use crate::flipped::Flipped;
 use delivery::sheets::open_sheet_as;
-use fault::halt::Halt;
 use fault::kinds::{Placed, SessionFault, SheetFault};
-use reading::play::play_as;
-use reading::script::{Ask, Reply};
+use reading::{Call, play_as};
 use session::keys::KeyPlace;
 use session::logs::Played;
 use session::script::{Course, End, Stretch};
@@ -83,17 +81,20 @@ pub fn open_sheet(
 }
 
 /// Any list of calls on a reader over the opened sheet.
-pub fn play_reader(
-    heap: Global,
+pub fn play_reader<'a>(
     key: &[u8],
     header: &[u8],
     ciphertext: &[u8],
     tag: &[u8],
-    out: &mut [u8],
-    asks: &[Ask],
-) -> Result<Vec<Reply>, Halt<SheetFault>>
-    ensures { PlayedBy flipped key.now header.now ciphertext.now tag.now
-        out.old out.new asks.now result }
+    out: &'a mut [u8],
+    calls: &mut [Call<'a>],
+) -> reading::Played<'a>
+    ensures accepts { length key.now ≡ 16 → length ciphertext.now ≤ length out.old
+        → IsOk result.outcome ↔ ((es : List Item)
+        × SheetSeals (flipped key.now) header.now es ciphertext.now tag.now) }
+    ensures answered { IfOk result.outcome (λ n. (es : List Item)
+        → SheetSeals (flipped key.now) header.now es ciphertext.now tag.now
+        → AllAnswered out.entry.ref_ptr es calls.old calls.new) }
 {
-    play_as::<Flipped>(heap, key, header, ciphertext, tag, out, asks)
+    play_as::<Flipped>(key, header, ciphertext, tag, out, calls)
 }

@@ -1,6 +1,6 @@
 // One sheet sealed under the suite, opened and read.
 use crate::promised::{open, open_sheet, play_reader, seal};
-use reading::script::{Ask, Reply};
+use reading::{Ask, Call, Reply};
 use std::process::Abort;
 use std::test::Fail;
 
@@ -19,14 +19,16 @@ fn seals_opens_and_reads(rt: HostRuntime) -> Result<(), Fail> {
     assert_eq!(rt; open(&KEY, b"lift 7", &sealed, &tag, &mut out)?, 12);
     assert_eq!(rt; out, SHEET);
     assert_eq!(rt; open_sheet(&KEY, b"lift 7", &sealed, &tag, &mut out)?, 1);
-    let asks = [Ask::Next, Ask::Next];
-    match play_reader(rt.alloc(), &KEY, b"lift 7", &sealed, &tag, &mut out, &asks) {
-        Ok(replies) => {
-            assert!(rt; matches!(replies.first(), Some(Reply::Next(Ok(Some(_))))));
-            assert!(rt; matches!(replies.last(), Some(Reply::Next(Ok(None)))));
-        }
-        Err(_) => assert!(rt; false, "refused"),
-    }
+    let next = Call {
+        ask: Ask::Next,
+        reply: None,
+    };
+    let mut calls = [next, next];
+    let played = play_reader(&KEY, b"lift 7", &sealed, &tag, &mut out, &mut calls);
+    assert_eq!(rt; played.outcome, Ok(1));
+    let [first, second] = calls;
+    assert!(rt; matches!(first.reply, Some(Reply::Next(Ok(Some(_))))));
+    assert!(rt; matches!(second.reply, Some(Reply::Next(Ok(None)))));
     tag[0] ^= 1;
     assert!(rt; open_sheet(&KEY, b"lift 7", &sealed, &tag, &mut out).is_err());
     Ok(())
