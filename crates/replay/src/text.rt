@@ -1,28 +1,63 @@
-// The text of a written session. A line is a word and what it takes, bytes in hexadecimal:
-//
-//     suite NUMBER      which suite
-//     key BYTES         fills the key place
-//     header BYTES      a header call
-//     seal | open       the start of the body
-//     body ROOM BYTES   a body call that offers room for ROOM bytes
-//     finish            the end of a sealing
-//     finish BYTES      the end of an opening, with the tag
-//
-// A call stands only where a caller's program could make it; suite and key stand before every call.
-use std::alloc::{AllocError, AllocFailed, Global};
+//! The text of a written session. A line is a word and what it takes, bytes in hexadecimal:
+//!
+//!     suite NUMBER      which suite
+//!     key BYTES         fills the key place
+//!     header BYTES      a header call
+//!     seal | open       the start of the body
+//!     body ROOM BYTES   a body call that offers room for ROOM bytes
+//!     finish            the end of a sealing
+//!     finish BYTES      the end of an opening, with the tag
+//!
+//! A call stands only where a caller's program could make it; suite and key stand before every
+//! call.
+use hex::{FromHexError, decode};
+use std::alloc::{AllocFailed, Global};
+use std::fmt;
 
-// Why a line was not taken.
+/// Why a line was not taken: the rule that it breaks.
 #[derive(Drop)]
 pub enum Fault {
-    // it is no call, or one that cannot stand here
-    NoCall,
-    // memory was wanting
-    Memory(AllocError),
+    Word,
+    Suite,
+    Room,
+    Digits,
+    Late,
+    Started,
+    NoBody,
+    Tag,
+    /// It breaks no rule, but memory ran out.
+    Memory,
+}
+
+impl fmt::Display for Fault {
+    fn fmt<W: fmt::Write>(&self, f: &mut fmt::Formatter<W>) -> fmt::Result {
+        let rule = match self {
+            Fault::Word => "a line begins with suite, key, header, seal, open, body or finish",
+            Fault::Suite => "suite takes a number from 0 to 255",
+            Fault::Room => "body takes its room in bytes, and then the bytes",
+            Fault::Digits => "bytes are pairs of hexadecimal digits",
+            Fault::Late => "suite and key stand before every call",
+            Fault::Started => "header, seal and open stand before the body has started",
+            Fault::NoBody => "body and finish stand between the body's start and its finish",
+            Fault::Tag => "the finish of a sealing takes no bytes",
+            Fault::Memory => "memory ran out",
+        };
+        write!(f, "{rule}")
+    }
 }
 
 impl<T: Drop> From<AllocFailed<T>> for Fault {
-    fn from(e: AllocFailed<T>) -> Fault {
-        Fault::Memory(e.into())
+    fn from(_: AllocFailed<T>) -> Fault {
+        Fault::Memory
+    }
+}
+
+impl From<FromHexError> for Fault {
+    fn from(e: FromHexError) -> Fault {
+        match e {
+            FromHexError::OutOfMemory => Fault::Memory,
+            _ => Fault::Digits,
+        }
     }
 }
 
@@ -81,7 +116,7 @@ impl Written {
             }),
             "body" => self.body(heap, rest),
             "finish" => self.finish(heap, rest),
-            _ => Err(Fault::NoCall),
+            _ => Err(Fault::Word),
         }
     }
 
@@ -91,28 +126,29 @@ impl Written {
     }
 
     fn suite(&mut self, rest: &str) -> Result<(), Fault> {
-        match rest.parse::<u8>() {
-            Ok(number) if self.is_new() => {
-                self.suite = number;
-                Ok(())
-            }
-            _ => Err(Fault::NoCall),
+        let Ok(number) = rest.parse::<u8>() else {
+            return Err(Fault::Suite);
+        };
+        if !self.is_new() {
+            return Err(Fault::Late);
         }
+        self.suite = number;
+        Ok(())
     }
 
     fn key(&mut self, heap: Global, rest: &str) -> Result<(), Fault> {
-        let key = bytes(heap, rest)?;
+        let key = decode(heap, rest)?;
         if !self.is_new() {
-            return Err(Fault::NoCall);
+            return Err(Fault::Late);
         }
         self.key = key;
         Ok(())
     }
 
     fn header(&mut self, heap: Global, rest: &str) -> Result<(), Fault> {
-        let header = bytes(heap, rest)?;
+        let header = decode(heap, rest)?;
         if self.body.is_some() {
-            return Err(Fault::NoCall);
+            return Err(Fault::Started);
         }
         self.headers.push(header)?;
         Ok(())
@@ -120,7 +156,7 @@ impl Written {
 
     fn begin(&mut self, body: Body) -> Result<(), Fault> {
         if self.body.is_some() {
-            return Err(Fault::NoCall);
+            return Err(Fault::Started);
         }
         self.body = Some(body);
         Ok(())
@@ -129,11 +165,11 @@ impl Written {
     fn body(&mut self, heap: Global, rest: &str) -> Result<(), Fault> {
         let (room, text) = rest.split_once(' ').unwrap_or((rest, ""));
         let Ok(room) = room.parse::<u32>() else {
-            return Err(Fault::NoCall);
+            return Err(Fault::Room);
         };
         let piece = Piece {
-            bytes: bytes(heap, text)?,
-            // Kept: a `u32` has no `From` to a `usize`.
+            bytes: decode(heap, text)?,
+            // a `u32` has no `From` to a `usize`
             room: room as usize,
         };
         match &mut self.body {
@@ -144,41 +180,23 @@ impl Written {
                 },
             ) => pieces.push(piece)?,
             Some(Body::Open { pieces, tag: None }) => pieces.push(piece)?,
-            _ => return Err(Fault::NoCall),
+            _ => return Err(Fault::NoBody),
         }
         Ok(())
     }
 
     fn finish(&mut self, heap: Global, rest: &str) -> Result<(), Fault> {
-        let bytes = bytes(heap, rest)?;
+        let bytes = decode(heap, rest)?;
         match &mut self.body {
-            Some(Body::Seal { finish, .. }) if !*finish && bytes.is_empty() => *finish = true,
+            Some(Body::Seal { finish, .. }) if !*finish => {
+                if !bytes.is_empty() {
+                    return Err(Fault::Tag);
+                }
+                *finish = true;
+            }
             Some(Body::Open { tag, .. }) if tag.is_none() => *tag = Some(bytes),
-            _ => return Err(Fault::NoCall),
+            _ => return Err(Fault::NoBody),
         }
         Ok(())
-    }
-}
-
-// Hexadecimal digits in pairs.
-fn bytes(heap: Global, text: &str) -> Result<Vec<u8>, Fault> {
-    let (pairs, rest) = text.as_bytes().as_chunks::<2>();
-    if !rest.is_empty() {
-        return Err(Fault::NoCall);
-    }
-    let mut all = Vec::new(heap);
-    for [high, low] in pairs {
-        all.push(digit(*high)? << 4 | digit(*low)?)?;
-    }
-    Ok(all)
-}
-
-// Kept: the library's `to_digit` answers a `u32`, which would have to be cast.
-fn digit(c: u8) -> Result<u8, Fault> {
-    match c {
-        b'0'..=b'9' => Ok(c - b'0'),
-        b'a'..=b'f' => Ok(c - b'a' + 10),
-        b'A'..=b'F' => Ok(c - b'A' + 10),
-        _ => Err(Fault::NoCall),
     }
 }

@@ -1,10 +1,11 @@
-// Seals one message under a label with a key, opens it again, and shows that a tag with one bit turned is refused: the whole of it under
-// each listed suite, which is told by its number.
+//! Seals one message under a label with a key, opens it again, and shows that a tag with one bit
+//! turned is refused: the whole of it under each listed suite, which is told by its number.
 #![tactic(auto)]
 
 use delivery::message::{open, seal};
 use hexits::Hex;
 use std::io;
+use std::io::Write;
 
 const KEY: [u8; 16] = [0x2a; 16];
 
@@ -15,37 +16,47 @@ const MESSAGE: &[u8] = b"two door rollers, one guide shoe";
 const LEN: usize = 32;
 
 fn main(rt: HostRuntime) -> io::Result<()> {
-    println!(rt; "label      {}", Hex(LABEL))?;
-    println!(rt; "message    {}", Hex(MESSAGE))?;
-    trip(&rt, 1)?;
-    trip(&rt, 2)?;
-    trip(&rt, 3)?;
-    trip(&rt, 4)
+    run(&mut rt.stdout())
+}
+
+/// Writes what comes of the task under each suite.
+fn run<W: Write>(writer: &mut W) -> io::Result<()> {
+    writeln!(writer, "label      {}", Hex(LABEL))?;
+    writeln!(writer, "message    {}", Hex(MESSAGE))?;
+    trip(writer, 1)?;
+    trip(writer, 2)?;
+    trip(writer, 3)?;
+    trip(writer, 4)
 }
 
 // The whole task under one suite.
-fn trip(rt: &HostRuntime, suite: u8) -> io::Result<()> {
-    println!(rt; "suite {suite}")?;
+fn trip<W: Write>(writer: &mut W, suite: u8) -> io::Result<()> {
+    writeln!(writer, "suite {suite}")?;
     let mut ciphertext = [0; LEN];
     let mut tag = [0; 16];
     match seal(suite, &KEY, LABEL, MESSAGE, &mut ciphertext, &mut tag) {
-        Ok(n) => println!(rt; "sealed: {n} bytes")?,
-        Err(fault) => println!(rt; "{fault}")?,
+        Ok(n) => writeln!(writer, "sealed: {n} bytes")?,
+        Err(fault) => writeln!(writer, "{fault}")?,
     }
-    println!(rt; "ciphertext {}", Hex(&ciphertext))?;
-    println!(rt; "tag        {}", Hex(&tag))?;
-    unseal(rt, suite, &ciphertext, &tag)?;
+    writeln!(writer, "ciphertext {}", Hex(&ciphertext))?;
+    writeln!(writer, "tag        {}", Hex(&tag))?;
+    unseal(writer, suite, &ciphertext, &tag)?;
     tag[15] ^= 1;
-    println!(rt; "the tag's last bit turned")?;
-    unseal(rt, suite, &ciphertext, &tag)
+    writeln!(writer, "the tag's last bit turned")?;
+    unseal(writer, suite, &ciphertext, &tag)
 }
 
 // Opens, and prints the verdict and what the buffer then holds.
-fn unseal(rt: &HostRuntime, suite: u8, ciphertext: &[u8; LEN], tag: &[u8; 16]) -> io::Result<()> {
+fn unseal<W: Write>(
+    writer: &mut W,
+    suite: u8,
+    ciphertext: &[u8; LEN],
+    tag: &[u8; 16],
+) -> io::Result<()> {
     let mut message = [0xff; LEN];
     match open(suite, &KEY, LABEL, ciphertext, tag, &mut message) {
-        Ok(n) => println!(rt; "opened: {n} bytes")?,
-        Err(fault) => println!(rt; "{fault}")?,
+        Ok(n) => writeln!(writer, "opened: {n} bytes")?,
+        Err(fault) => writeln!(writer, "{fault}")?,
     }
-    println!(rt; "buffer     {}", Hex(&message))
+    writeln!(writer, "buffer     {}", Hex(&message))
 }

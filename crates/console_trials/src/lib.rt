@@ -1,0 +1,6 @@
+//! Tests of what the console prints: the longest delivery, one byte more, no byte, and a writer that
+//! takes no more.
+#![tactic(auto)]
+
+#[cfg(test)]
+mod printed;
