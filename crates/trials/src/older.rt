@@ -5,9 +5,9 @@ ghost use Rattle.suites.proofs.Lawful.{aes_inverts};
 ghost use Rattle.trials.specs.Older.{last_mask, older, older_suite};
 ghost use Rattle.trials.specs.Olders.{older_lawful};
 
+use block::{complete, xor};
 use buffer::Buffer;
 use digests::doubling::double;
-use block::{complete, xor};
 use std::marker::PhantomData;
 use suite::{HeaderDigest, Keyed, Permutation, Suite};
 use suites::ciphers::{Aes128, KeyedHash};

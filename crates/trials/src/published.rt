@@ -2,8 +2,8 @@
 // every key, digest, ciphertext and tag is executed and matched, through the suites with the older
 // header digest. They are what holds four-round AES to a source from outside.
 use crate::older::OlderSuite;
-use fault::kinds::{Placed, SessionFault};
 use block::xor;
+use fault::kinds::{Placed, SessionFault};
 use session::keys::KeyPlace;
 use session::play::play;
 use session::script::{Answer, Course, End, Stretch};
