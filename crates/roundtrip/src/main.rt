@@ -4,8 +4,8 @@
 
 use delivery::message::{open, seal};
 use hexits::Hex;
-use std::io;
 use std::io::Write;
+use std::{env, io};
 
 const KEY: [u8; 16] = [0x2a; 16];
 
@@ -15,7 +15,15 @@ const MESSAGE: &[u8] = b"two door rollers, one guide shoe";
 
 const LEN: usize = 32;
 
+const HELP: &'static str =
+    "roundtrip seals a message under each listed suite, opens it again, and shows that a tag with one
+bit turned is refused. It reads nothing, and takes no arguments.
+";
+
 fn main(rt: HostRuntime) -> io::Result<()> {
+    if env::args(&rt)?.nth(1).is_some() {
+        return print!(rt; "{HELP}");
+    }
     run(&mut rt.stdout())
 }
 

@@ -9,7 +9,7 @@ mod rows;
 use deliveries::deliveries;
 use hexits::Hex;
 use rows::show;
-use std::io;
+use std::{env, io};
 use suite::{Permutation, Suite};
 use suites::ciphers::{Aes128, KeyedHash};
 use suites::mirror::Mirror;
@@ -30,7 +30,15 @@ const MESSAGE: [u8; 33] = [
     0x30,
 ];
 
+const HELP: &'static str =
+    "vectors prints the figures of the format's page: seals under each listed suite with their
+intermediate values, and deliveries with what is printed for them. It takes no arguments.
+";
+
 fn main(rt: HostRuntime) -> io::Result<()> {
+    if env::args(&rt)?.nth(1).is_some() {
+        return print!(rt; "{HELP}");
+    }
     head(&rt, Shaft::NUMBER)?;
     let delivered = Aes128::under(KEY);
     value(&rt, "K", &delivered.encrypt(big_endian(1)))?;

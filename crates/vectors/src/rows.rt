@@ -34,7 +34,7 @@ pub(crate) fn show<S: Suite>(rt: &HostRuntime, header: &[u8], message: &[u8]) ->
         y = permutation.encrypt(x);
         row(rt, i, &x, &y)?;
     }
-    let mask = permutation.encrypt(S::encode(8 * message.len() as u64));
+    let mask = permutation.encrypt(S::encode(8 * message.len().min(MOST) as u64));
     let filled = complete(last, &tau);
     x = xor(xor(hash.hash(x), filled), mask);
     let over = hash.hash(y);
