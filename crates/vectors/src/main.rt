@@ -1,6 +1,6 @@
 //! Prints the figures of docs/FORMAT.md: under each listed suite a few seals with their
-//! intermediate values, and deliveries with what is printed for them. The gate compares them with the
-//! page.
+//! intermediate values, and deliveries with what is printed for them. The gate compares them with
+//! the page.
 #![tactic(auto)]
 
 mod deliveries;
