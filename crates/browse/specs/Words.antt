@@ -1,6 +1,7 @@
 -- The words that stand for calls on a reader.
 use Rattle.std.specs.Prelude.{ℕ, List, codes}
-use Rattle.sheet.specs.declared.entry.Kind.TheVariants.{Code, Parent, Count, Landing, Months, Drawing}
+use Rattle.sheet.specs.declared.entry.Kind.TheVariants.{Code, Parent, Count}
+use Rattle.sheet.specs.declared.entry.Kind.TheVariants.{Landing, Months, Drawing}
 use Rattle.reading.specs.declared.script.Ask.{Ask}
 use Rattle.reading.specs.declared.script.Ask.TheVariants.{Next, Field}
 

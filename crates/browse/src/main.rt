@@ -1,9 +1,11 @@
-//! Reads one delivery from standard input, answers the calls that its arguments name on a new reader over the opened sheet, and prints what
-//! each answered.
+//! Reads one delivery from standard input, answers the calls that its arguments name on a new
+//! reader over the opened sheet, and prints what each answered.
 #![tactic(auto)]
 
 mod browsing;
 mod shown;
+#[cfg(test)]
+mod tests;
 mod words;
 
 use anyhow::anyhow;
@@ -14,8 +16,9 @@ use wire::parse::CIPHERTEXT_LIMIT;
 use words::{WORDS, ask_of};
 
 const HELP: &'static str =
-    "browse WORD.. reads one delivery from standard input, opens its sheet, and prints what a reader answers.
-A word asks for the following entry (next), or for a field of the entry last answered (code, parent, count, landing, months, drawing).
+    "browse WORD.. reads one delivery from standard input, opens its sheet, and prints what a reader
+answers. A word asks for the following entry (next), or for a field of the entry last answered
+(code, parent, count, landing, months, drawing).
 ";
 
 fn main(rt: HostRuntime) -> anyhow::Result<()> {

@@ -15,7 +15,8 @@ use streams::put;
 
 /// Writes the text for a reply.
 pub(crate) fn show<W: Write>(output: &mut W, reply: Reply<'_>) -> io::Result<()>
-    ensures { OnOk result (Appends (W.contents output.old) (W.contents output.new) (reply_text reply.entry)) }
+    ensures { OnOk result (Appends (W.contents output.old) (W.contents output.new)
+        (reply_text reply.entry)) }
 {
     match reply {
         Reply::Next(Ok(Some(entry))) => show_entry(output, entry),
@@ -30,7 +31,8 @@ pub(crate) fn show<W: Write>(output: &mut W, reply: Reply<'_>) -> io::Result<()>
 }
 
 fn show_field<W: Write>(output: &mut W, field: Field<&[u8]>) -> io::Result<()>
-    ensures { OnOk result (Appends (W.contents output.old) (W.contents output.new) (a_line (field_text field.entry))) }
+    ensures { OnOk result (Appends (W.contents output.old) (W.contents output.new)
+        (a_line (field_text field.entry))) }
 {
     match field {
         Field::Code(s) | Field::Parent(s) | Field::Drawing(s) => show_text(output, s),
@@ -48,7 +50,8 @@ fn show_text<W: Write>(output: &mut W, s: &[u8]) -> io::Result<()>
 
 // An entry as its line of the list.
 fn show_entry<W: Write>(output: &mut W, entry: Entry<&[u8]>) -> io::Result<()>
-    ensures { OnOk result (Appends (W.contents output.old) (W.contents output.new) (line_of (item_of entry.entry))) }
+    ensures { OnOk result (Appends (W.contents output.old) (W.contents output.new)
+        (line_of (item_of entry.entry))) }
 {
     let mut row = [0; 70];
     match line(entry, &mut row, 0) {
