@@ -7,8 +7,6 @@ use Rattle.fault.specs.declared.kinds.KeyFault.{KeyFault}
 use Rattle.fault.specs.declared.kinds.SessionFault.{SessionFault}
 use Rattle.fault.specs.declared.kinds.SheetFault.{SheetFault}
 use Rattle.fault.specs.declared.kinds.ConsoleFault.{ConsoleFault}
-use Rattle.fault.specs.declared.halt.Halt.{Halt}
-use Rattle.fault.specs.declared.halt.Halt.TheVariants.{Refused, Memory}
 use Rattle.fault.specs.Numbers as numbers
 
 -- The table of a layer's faults: the number of each, and the layer that finds it.
@@ -58,12 +56,6 @@ Refuses t e (Err p) = IsRefusal t e p
 abbrev pub RefusedBy : {F X : Type 0} → Table F → Option (Refusal F) → Result X (Placed F) → Type 0
 RefusedBy t None r = IsOk r
 RefusedBy t (Some e) r = Refuses t e r
-
--- The call that answers r refuses so; it may also give up for want of memory.
-abbrev pub Halts : {F X : Type 0} → Table F → Refusal F → Result X (Halt F) → Type 0
-Halts t e (Ok x) = ⊥
-Halts t e (Err (Refused p)) = IsRefusal t e p
-Halts t e (Err (Memory x)) = ⊥
 
 -- A higher layer hands a lower one's refusal on, inside its own case c.
 abbrev pub inside : {E F : Type 0} → (c : E → F) → Refusal E → Refusal F

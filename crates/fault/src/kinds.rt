@@ -1,10 +1,11 @@
-// The faults of the layers, and where each was found. A layer's enum has a case that carries the
-// fault of the layer below, unaltered.
+//! The faults of the layers, and where each was found. A layer's enum has a case that carries the
+//! fault of the layer below, unaltered.
 ghost use Rattle.std.specs.Prelude.{◌≡◌};
 ghost use Rattle.fault.specs.declared.kinds.ConsoleFault.TheVariants.{Sheet};
 ghost use Rattle.fault.specs.declared.kinds.SessionFault.TheVariants.{Key};
 ghost use Rattle.fault.specs.declared.kinds.SheetFault.TheVariants.{Session};
-ghost use Rattle.fault.specs.Refusals.{HandedOn, console_faults, key_faults, session_faults, sheet_faults};
+ghost use Rattle.fault.specs.Refusals.{HandedOn, console_faults, key_faults, session_faults};
+ghost use Rattle.fault.specs.Refusals.{sheet_faults};
 
 /// The layer that found a fault.
 #[derive(Debug, PartialEq, Eq, Clone, Copy)]

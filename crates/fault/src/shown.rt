@@ -1,9 +1,12 @@
-// What a fault is called: its layer, its number, and a line of text.
+//! What a fault is called: its layer, its number, and a line of text.
 ghost use Rattle.std.specs.Prelude.{◌≡◌, ℕ, Some};
 ghost use Rattle.fault.specs.declared.kinds.Layer.{Layer};
-ghost use Rattle.fault.specs.Numbers.{console_layer, console_number, key_layer, key_number, layer_name, layer_of, number_of, sheet_layer, sheet_number, shown_fault};
+ghost use Rattle.fault.specs.Numbers.{console_layer, console_number, key_layer, key_number};
+ghost use Rattle.fault.specs.Numbers.{layer_name, layer_of, number_of, sheet_layer, sheet_number};
+ghost use Rattle.fault.specs.Numbers.{shown_fault};
 
 use crate::kinds::{ConsoleFault, KeyFault, Layer, Placed, SessionFault, SheetFault};
+use std::error::Error;
 use std::fmt;
 
 impl Layer {
@@ -142,3 +145,5 @@ impl<F: Fault> fmt::Display for Placed<F> {
         write!(f, "refused {number} by the {layer} layer at {place}")
     }
 }
+
+impl<F: Fault + fmt::Debug + Drop> Error for Placed<F> {}
