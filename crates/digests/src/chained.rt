@@ -1,4 +1,4 @@
-// The chained digest of whole blocks, over any permutation and any chaining hash.
+//! The chained digest of whole blocks, over any permutation and any chaining hash.
 ghost use Rattle.std.specs.Prelude.{◌≡◌};
 ghost use Rattle.forms.specs.Chained.{chained};
 

@@ -1,4 +1,4 @@
-// Blocks as polynomials over the bits, times x.
+//! Blocks as polynomials over the bits, times x.
 ghost use Rattle.std.specs.Prelude.{◌≡◌, ◌<◌, slice_index};
 ghost use Rattle.forms.specs.Double.{double, moved};
 

@@ -1,4 +1,4 @@
-// A header digest made of a digest of whole blocks and a rule of filling.
+//! A header digest made of a digest of whole blocks and a rule of filling.
 ghost use Rattle.std.specs.Prelude.{◌≡◌, ℕ, ◌≤◌, List, [], ◌∷◌, ◌++◌, length};
 
 use crate::filling::Filling;
@@ -69,7 +69,7 @@ impl<D: BlockDigest + Drop, G: Filling> HeaderDigest for Filled<D, G> {
     }
 
     fn finish(mut self) -> [u8; 16] {
-        let (block, further) = G::last(self.held.as_slice());
+        let (block, further) = G::last(&self.held);
         match further {
             None => self.digest.end(block),
             Some(last) => {

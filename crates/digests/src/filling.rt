@@ -1,4 +1,4 @@
-// How a header is filled up to whole blocks.
+//! How a header is filled up to whole blocks.
 ghost use Rattle.std.specs.Prelude.{◌≡◌, ℕ, ◌≤◌, ◌%◌, List, ◌++◌, length, MatchOption};
 ghost use Rattle.forms.specs.Filling.{filled, padded};
 ghost use Rattle.forms.specs.Laws.{KeepsBytes};
@@ -6,6 +6,7 @@ ghost use Rattle.forms.proofs.Fillings.{filled_bytes, filled_front, filled_whole
 ghost use Rattle.forms.proofs.Fillings.{padded_bytes, padded_front, padded_whole};
 
 use block::complete;
+use buffer::Buffer;
 
 // 80 and then zeros.
 const PADDING: [u8; 16] = [0x80, 0, 0, 0, 0, 0, 0, 0, 0, 0, 0, 0, 0, 0, 0, 0];
@@ -14,9 +15,8 @@ const PADDING: [u8; 16] = [0x80, 0, 0, 0, 0, 0, 0, 0, 0, 0, 0, 0, 0, 0, 0, 0];
 pub trait Filling {
     ghost fill: { List ℕ → List ℕ };
 
-    /// What the last bytes, sixteen at most, are filled to: a block, or two.
-    fn last(held: &[u8]) -> ([u8; 16], Option<[u8; 16]>)
-        requires { length held.now ≤ 16 }
+    /// What the last bytes are filled to: a block, or two.
+    fn last(held: &Buffer<16>) -> ([u8; 16], Option<[u8; 16]>)
         ensures { MatchOption result.1 (fill held.now ≡ result.0)
             (λ b. fill held.now ≡ result.0 ++ b) };
 
@@ -41,8 +41,8 @@ impl Filling for WholeStays {
 
     ghost bytes = { filled_bytes };
 
-    fn last(held: &[u8]) -> ([u8; 16], Option<[u8; 16]>) {
-        (complete(held, &PADDING), None)
+    fn last(held: &Buffer<16>) -> ([u8; 16], Option<[u8; 16]>) {
+        (complete(held.as_slice(), &PADDING), None)
     }
 }
 
@@ -58,7 +58,8 @@ impl Filling for AlwaysPadded {
 
     ghost bytes = { padded_bytes };
 
-    fn last(held: &[u8]) -> ([u8; 16], Option<[u8; 16]>) {
+    fn last(held: &Buffer<16>) -> ([u8; 16], Option<[u8; 16]>) {
+        let held = held.as_slice();
         let block = complete(held, &PADDING);
         if held.len() < 16 {
             (block, None)

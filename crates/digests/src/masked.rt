@@ -1,4 +1,4 @@
-// The masked digest of whole blocks, over any permutation.
+//! The masked digest of whole blocks, over any permutation.
 ghost use Rattle.std.specs.Prelude.{◌≡◌, replicate};
 ghost use Rattle.block.specs.Bytes.{◌⊕◌};
 ghost use Rattle.forms.specs.Masked.{masked};
