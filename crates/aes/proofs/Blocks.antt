@@ -19,7 +19,7 @@ relist (a ∷ x) (suc n) e = ap (λ (l : List ℕ). a ∷ l) (relist x n (omega 
 pub as_state : (x : List ℕ) → length x ≡ 16 → x ≡ state (byte_at x)
 as_state x e = relist x 16 e
 
-cons_of : {a b : ℕ} {x y : List ℕ} → a ≡ b → x ≡ y → ◌≡◌ {A = List ℕ} (a ∷ x) (b ∷ y)
+pub cons_of : {a b : ℕ} {x y : List ℕ} → a ≡ b → x ≡ y → ◌≡◌ {A = List ℕ} (a ∷ x) (b ∷ y)
 cons_of p q = ap₂ (λ (h : ℕ) (t : List ℕ). h ∷ t) p q
 
 pub state_of : (f g : ℕ → ℕ → ℕ) → ((r c : ℕ) → r < 4 → c < 4 → f r c ≡ g r c) → state f ≡ state g

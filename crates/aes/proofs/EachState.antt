@@ -1,30 +1,18 @@
 -- From one byte to the sixteen of a state: what the steps on vectors make of a whole state. A permute with constant places picks list elements, so
 -- each of the sixteen bytes of a round is one instance of what `EachByte` says of a row.
-use Rattle.std.proofs.Common.{◌≡◌, ℕ, ◌+◌, ◌*◌, ◌<◌, List, ◌∷◌, ◌++◌, map, replicate, bit_xor, refl, sym, ap, ap₂, ◌∙◌}
-use lib.Bits.{xor_comm, xor_assoc}
+use Rattle.std.proofs.Common.{◌≡◌, ℕ, ◌+◌, ◌*◌, ◌<◌, List, ◌++◌, map, replicate, bit_xor, refl, sym, ap, ap₂, ◌∙◌}
 use lib.Lanes.{zip2, pick_l}
-use Rattle.field.specs.Field.{mul}
 use Rattle.field.specs.Substitution.{sub, unsub}
 use Rattle.field.specs.Columns.{dot, mixed, unmixed}
+use Rattle.field.proofs.Columns.{dot_turn}
 use Rattle.aes.specs.State.{byte_at, state, add_round_key, sub_bytes, shift_rows, mix_columns, inv_sub_bytes, inv_shift_rows, inv_mix_columns}
 use Rattle.block.specs.Bytes.{Block}
 use Rattle.aes.specs.Cipher.{round}
-use Rattle.aes.proofs.Blocks.{as_state, byte_lt, state_of}
+use Rattle.aes.proofs.Blocks.{as_state, byte_lt, cons_of, state_of}
 use Rattle.aes.specs.declared.tables.TheConstants.{AFFINE_CONSTANT, DOUBLED_IN_TOWER, OUT_OF_TOWER, SUBSTITUTED, SUBSTITUTED_IN_TOWER, UNAFFINE_9, UNAFFINE_11, UNAFFINE_13, UNAFFINE_14, UNAFFINE_CONSTANT, UNSUBSTITUTED_9, UNSUBSTITUTED_11, UNSUBSTITUTED_13, UNSUBSTITUTED_14, SHIFTED_SAME_ROW, SHIFTED_NEXT_ROW, SHIFTED_SECOND_ROW, SHIFTED_THIRD_ROW, UNSHIFTED_SAME_ROW, UNSHIFTED_NEXT_ROW, UNSHIFTED_SECOND_ROW, UNSHIFTED_THIRD_ROW}
 use Rattle.aes.specs.Tower.{by_halves, by_inverse, in_tower, key_in_tower, unaffine_in_tower, unmixed_in_tower}
 use Rattle.aes.proofs.Lanes.{IsBlock, lane_fits}
 use Rattle.aes.proofs.EachByte.{substituted_in_tower, doubled_in_tower, unsubstituted, left_at, substituted_at, unsubstituted_at, mixed_at, unmixed_at, unround_at}
-
--- a row of a matrix times a column, both turned by one place
-dot_turn : (p q r s a b c d : ℕ) → dot p q r s a b c d ≡ dot q r s p b c d a
-dot_turn p q r s a b c d =
-    xor_assoc (bit_xor (mul p a) (mul q b)) (mul r c) (mul s d)
-    ∙ xor_assoc (mul p a) (mul q b) (bit_xor (mul r c) (mul s d))
-    ∙ xor_comm (mul p a) (bit_xor (mul q b) (bit_xor (mul r c) (mul s d)))
-    ∙ ap (λ (x : ℕ). bit_xor x (mul p a)) (sym (xor_assoc (mul q b) (mul r c) (mul s d)))
-
-cons_of : {a b : ℕ} {x y : List ℕ} → a ≡ b → x ≡ y → ◌≡◌ {A = List ℕ} (a ∷ x) (b ∷ y)
-cons_of p q = ap₂ (λ (h : ℕ) (t : List ℕ). h ∷ t) p q
 
 -- a byte of a round, as it is summed, and as it should be in row r
 abbrev mixed_sum : ℕ → ℕ → ℕ → ℕ → ℕ → ℕ

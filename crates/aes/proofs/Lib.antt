@@ -9,3 +9,4 @@ mod Inversion
 mod EachByte
 mod EachState
 mod Undoing
+mod Three

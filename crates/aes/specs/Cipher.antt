@@ -2,7 +2,8 @@
 -- of round keys.
 use Rattle.std.specs.Prelude.{◌≡◌, ℕ, zero, suc, ◌<◌, List, [], length, slice_index_or}
 use Rattle.block.specs.Bytes.{Block}
-use Rattle.aes.specs.State.{sub_bytes, shift_rows, mix_columns, add_round_key, inv_sub_bytes, inv_shift_rows, inv_mix_columns}
+use Rattle.aes.specs.State.{sub_bytes, shift_rows, mix_columns, add_round_key, inv_sub_bytes}
+use Rattle.aes.specs.State.{inv_shift_rows, inv_mix_columns}
 
 -- round key i
 abbrev pub key_at : List (List ℕ) → ℕ → List ℕ

@@ -1,6 +1,8 @@
 -- KeyExpansion of FIPS 197 for a key of sixteen bytes: the loop that makes the words w[0] to w[43],
 -- and AES-128 under a key.
-use Rattle.std.specs.Prelude.{ℕ, zero, suc, ◌+◌, ◌-◌, ◌*◌, ◌/◌, ◌%◌, cond, List, [], ◌∷◌, ◌++◌, ◌==◌, bit_xor, slice_index, slice_index_or}
+use Rattle.std.specs.Prelude.{ℕ, zero, suc, ◌+◌, ◌-◌, ◌*◌, ◌/◌, ◌%◌, if◌then◌else◌, List, [], ◌∷◌}
+use Rattle.std.specs.Prelude.{◌++◌}
+use Rattle.std.specs.Prelude.{◌==◌, bit_xor, slice_index, slice_index_or}
 use Rattle.field.specs.Field.{xtime}
 use Rattle.field.specs.Substitution.{sub}
 use Rattle.aes.specs.State.{byte_at}
@@ -34,7 +36,8 @@ rcon j = power (j - 1) ∷ 0 ∷ 0 ∷ 0 ∷ []
 
 -- temp, from i and w[i-1]
 unfoldable pub temp : ℕ → List ℕ → List ℕ
-temp i before = cond (i % 4 == 0) (xor_word (sub_word (rot_word before)) (rcon (i / 4))) before
+temp i before =
+    if i % 4 == 0 then xor_word (sub_word (rot_word before)) (rcon (i / 4)) else before
 
 -- a turn of the loop: w[i], from the words before it
 unfoldable pub turn : ℕ → List (List ℕ) → List ℕ

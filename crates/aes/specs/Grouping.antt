@@ -2,7 +2,8 @@
 -- and no contract of a public function cites them.
 use Rattle.std.specs.Prelude.{ℕ, zero, suc, ◌+◌, ◌%◌, List, bit_xor}
 use Rattle.field.specs.Substitution.{sub}
-use Rattle.aes.specs.State.{byte_at, state, add_round_key, inv_sub_bytes, inv_shift_rows, inv_mix_columns}
+use Rattle.aes.specs.State.{byte_at, state, add_round_key, inv_sub_bytes, inv_shift_rows}
+use Rattle.aes.specs.State.{inv_mix_columns}
 use Rattle.aes.specs.Cipher.{key_at}
 
 -- a whole round undone, but for its key

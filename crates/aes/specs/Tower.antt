@@ -1,10 +1,12 @@
 -- Bytes in the tower, as `src/tower.rt` has them, which says what the tower is. Proofs tie these to
 -- the field of AES, and no contract of a public function cites them.
-use Rattle.std.specs.Prelude.{ℕ, ◌/◌, List, map, Bool, ◌||◌, T, nat_lt, nat_le, if◌then◌else◌, slice_index, bit_and, bit_xor}
+use Rattle.std.specs.Prelude.{ℕ, ◌/◌, List, map, Bool, ◌||◌, T, nat_lt, nat_le, if◌then◌else◌}
+use Rattle.std.specs.Prelude.{slice_index, bit_and, bit_xor}
 use Rattle.std.specs.Simd.Lanes.{Each1}
 use Rattle.aes.specs.declared.tables.HalfTables.{HalfTables}
 use Rattle.aes.specs.declared.tables.InverseTables.{InverseTables}
-use Rattle.aes.specs.declared.tables.TheConstants.{AFFINE_CONSTANT, INTO_TOWER, INVERSES, SEVEN_OVER, UNAFFINE, UNAFFINE_CONSTANT}
+use Rattle.aes.specs.declared.tables.TheConstants.{AFFINE_CONSTANT, INTO_TOWER, INVERSES}
+use Rattle.aes.specs.declared.tables.TheConstants.{SEVEN_OVER, UNAFFINE, UNAFFINE_CONSTANT}
 use Rattle.aes.specs.State.{inv_mix_columns, inv_shift_rows}
 
 -- ---- look-ups

@@ -1,4 +1,4 @@
-// Key expansion, a round key at a time: four turns of the loop over words at once.
+//! Key expansion, a round key at a time: four turns of the loop over words at once.
 ghost use Rattle.aes.specs.Grouping.{next_key};
 ghost use Rattle.std.specs.Prelude.{◌≡◌};
 

@@ -1,14 +1,15 @@
-// AES-128 of FIPS 197 with ten rounds, and the same with four whole rounds, both ways.
-//
-// A function whose name ends in `_stands` does nothing: its contract is a theorem, and the crate is
-// refused without the proof.
+//! AES-128 of FIPS 197 with ten rounds, and the same with four whole rounds, both ways.
+//!
+//! A function whose name ends in `_stands` does nothing: its contract is a theorem, and the crate is
+//! refused without the proof.
 #![tactic(auto)]
 
 ghost use Rattle.std.specs.Prelude.{◌≡◌, ℕ, ◌+◌, ◌-◌, ◌<◌, List, map, length, slice_index};
 ghost use Rattle.block.specs.Bytes.{Block};
 ghost use Rattle.aes.specs.Tower.{key_in_tower, unmixed_in_tower};
 ghost use Rattle.aes.specs.Between.{AfterRounds, BeforeRounds};
-ghost use Rattle.aes.specs.Cipher.{IsSchedule, cipher, cipher4, inv_cipher, inv_cipher4, key_at, rounds};
+ghost use Rattle.aes.specs.Cipher.{IsSchedule, cipher, cipher4, inv_cipher, inv_cipher4, key_at};
+ghost use Rattle.aes.specs.Cipher.{rounds};
 ghost use Rattle.aes.specs.Expansion.{schedule};
 ghost use Rattle.aes.specs.Grouping.{unrounds};
 ghost use Rattle.aes.specs.Laws.{AesLaw, Aes4Law, CipherLaw, Cipher4Law, ExpansionLaw};

@@ -1,4 +1,4 @@
-// The steps that move bytes and add a round key.
+//! The steps that move bytes and add a round key.
 ghost use Rattle.aes.specs.State.{add_round_key, inv_shift_rows, shift_rows};
 ghost use Rattle.std.specs.Prelude.{◌≡◌};
 

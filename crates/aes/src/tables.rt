@@ -1,8 +1,8 @@
-// The tables of `tower`. Its head says what the letters stand for: the field of sixteen elements,
-// the tower over it with its element t, the map f of bytes into the tower, and the places I and J.
-//
-// `tools/aes_tables.py` derives each table from these definitions, and compares. No proof rests on
-// that script: `proofs/EachByte.antt` computes at all 256 bytes what each pair of tables gives.
+//! The tables of `tower`. Its head says what the letters stand for: the field of sixteen elements,
+//! the tower over it with its element t, the map f of bytes into the tower, and the places I and J.
+//!
+//! `tools/aes_tables.py` derives each table from these definitions, and compares. No proof rests on
+//! that script: `proofs/EachByte.antt` computes at all 256 bytes what each pair of tables gives.
 
 /// The tables of a map of bytes that is linear over their bits: what it makes of a byte is the sum
 /// of what it makes of the byte's two halves.

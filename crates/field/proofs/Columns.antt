@@ -37,7 +37,7 @@ sum4_across a b c d e f g h i j k l m n o p =
     ∙ sum4_swap (bit_xor (bit_xor a e) i) (bit_xor (bit_xor b f) j) (bit_xor (bit_xor c g) k) (bit_xor (bit_xor d h) l) m n o p
 
 -- a row and a column turned by a place
-dot_turn : (p q r s a b c d : ℕ) → dot p q r s a b c d ≡ dot q r s p b c d a
+pub dot_turn : (p q r s a b c d : ℕ) → dot p q r s a b c d ≡ dot q r s p b c d a
 dot_turn p q r s a b c d =
     xor_assoc (bit_xor (mul p a) (mul q b)) (mul r c) (mul s d)
     ∙ xor_assoc (mul p a) (mul q b) (bit_xor (mul r c) (mul s d))

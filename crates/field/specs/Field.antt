@@ -1,5 +1,5 @@
--- The field of 256 elements of FIPS 197: a byte is a polynomial over the bits, its lowest bit first, and polynomials count modulo
--- x^8 + x^4 + x^3 + x + 1. Their sum is exclusive or.
+-- The field of 256 elements of FIPS 197: a byte is a polynomial over the bits, its lowest bit
+-- first, and polynomials count modulo x^8 + x^4 + x^3 + x + 1. Their sum is exclusive or.
 use Rattle.std.specs.Prelude.{ℕ, zero, suc, ◌*◌, ◌/◌, ◌%◌}
 use Rattle.std.specs.Int.Bits.{bit_xor}
 

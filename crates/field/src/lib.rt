@@ -1,6 +1,8 @@
-// Bytes as the field of 256 elements of FIPS 197: doubling, and the substitution of bytes by tables.
-//
-// A function whose name ends in `_stands` does nothing: its contract is a theorem, and the crate is refused without the proof.
+//! Bytes as the field of 256 elements of FIPS 197: doubling, and the substitution of bytes by
+//! tables.
+//!
+//! A function whose name ends in `_stands` does nothing: its contract is a theorem, and the crate
+//! is refused without the proof.
 #![tactic(auto)]
 
 ghost use Rattle.field.specs.Field.{xtime};

@@ -1,4 +1,4 @@
-// The substitution of bytes as a table: what each byte is replaced by.
+//! The substitution of bytes as a table: what each byte is replaced by.
 ghost use Rattle.field.specs.Substitution.{Tabled, sub};
 
 const ENTRIES: [u8; 256] = [

@@ -1,6 +1,4 @@
-// Its inverse as a table: what each byte replaces.
-//
-// Kept beside the other table: the two differ in their entries, and the rest is one line.
+//! The inverse of the substitution as a table: what each byte replaces.
 ghost use Rattle.field.specs.Substitution.{Tabled, unsub};
 
 const ENTRIES: [u8; 256] = [

@@ -1,6 +1,7 @@
 use Rattle.std.proofs.Common.{◌≡◌, ℕ, ◌-◌, ◌<◌, length, get_or, subst, rules, arith}
-use Rattle.aes.specs.Between.{AfterRounds, BeforeRounds}
+use Rattle.aes.specs.Between.{BeforeRounds}
 use Rattle.aes.proofs.Blocks.{block_from}
+use Rattle.aes.proofs.Three.{enciphered}
 use Rattle.aes.proofs.decipher_three.Goals as goal
 
 pub loop-i-init : goal.loop-i-init
@@ -28,14 +29,8 @@ returns-clause-first c =
 
 pub returns-clause-second : goal.returns-clause-second
 returns-clause-second c =
-    let lx : length c.args.x ≡ 16 = search rules in
-    let hx : (i : ℕ) → i < 16 → get_or c.args.x i 0 < 256 = search rules in
-    let e : c.loop-i.i ≡ 9 = omega arith in
-    c.last_round.ensures c.args.x (block_from c.args.x lx hx) (subst (λ n. AfterRounds c.args.b.now.keys n c.args.x c.loop-i.q) e c.loop-i.invariant.second)
+    enciphered c.args.b.now.keys c.args.x c.loop-i.q _ c.loop-i.i (search rules) (search rules) (omega arith) c.loop-i.invariant.second c.last_round.ensures
 
 pub returns-clause-third : goal.returns-clause-third
 returns-clause-third c =
-    let ly : length c.args.y ≡ 16 = search rules in
-    let hy : (i : ℕ) → i < 16 → get_or c.args.y i 0 < 256 = search rules in
-    let e : c.loop-i.i ≡ 9 = omega arith in
-    c.last_round-2.ensures c.args.y (block_from c.args.y ly hy) (subst (λ n. AfterRounds c.args.b.now.keys n c.args.y c.loop-i.r) e c.loop-i.invariant.third)
+    enciphered c.args.b.now.keys c.args.y c.loop-i.r _ c.loop-i.i (search rules) (search rules) (omega arith) c.loop-i.invariant.third c.last_round-2.ensures
