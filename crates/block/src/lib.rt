@@ -14,8 +14,8 @@ pub fn xor(a: [u8; 16], b: [u8; 16]) -> [u8; 16]
     array::from_fn(|i| a[i] ^ b[i])
 }
 
-/// The bytes `front`, completed to a block with the first bytes of `fill`; the first sixteen bytes of
-/// `front`, if it has more.
+/// The bytes `front`, completed to a block with the first bytes of `fill`; the first sixteen bytes
+/// of `front`, if it has more.
 pub fn complete(front: &[u8], fill: &[u8; 16]) -> [u8; 16]
     ensures { result ≡ take 16 (front.now ++ fill.now) }
 {

@@ -1,11 +1,12 @@
-// Up to N bytes in a row, filled from the front, with no heap.
+//! Up to N bytes in a row, filled from the front, with no heap.
 #![tactic(auto)]
 
-ghost use Rattle.std.specs.Prelude.{◌≡◌, ℕ, ◌≤◌, List, [], ◌∷◌, ◌++◌, length, take, ◌<◌, MatchOption};
+ghost use Rattle.std.specs.Prelude.{◌≡◌, ℕ, ◌≤◌, List, [], ◌∷◌, ◌++◌, length, take, ◌<◌};
+ghost use Rattle.std.specs.Prelude.{MatchOption};
 
 use std::marker::Model;
 
-// N bytes of memory, of which the first `len` were put in.
+/// N bytes of memory, of which the first were put in.
 #[derive(Drop)]
 pub struct Buffer<const N: usize> {
     bytes: [u8; N],
@@ -22,7 +23,7 @@ impl<const N: usize> Model for Buffer<N> {
 }
 
 impl<const N: usize> Buffer<N> {
-    // With nothing in it.
+    /// With nothing in it.
     pub fn new() -> Self
         ensures { result ≡ [] }
     {
@@ -32,7 +33,7 @@ impl<const N: usize> Buffer<N> {
         }
     }
 
-    // The bytes that were put in.
+    /// The bytes that were put in, in order.
     pub fn as_slice(&self) -> &[u8]
         ensures bytes { result.now ≡ self.now }
         ensures within { length result.now ≤ N }
@@ -40,9 +41,10 @@ impl<const N: usize> Buffer<N> {
         &self.bytes[..self.len]
     }
 
-    // All N bytes, if so many were put in.
+    /// All N bytes, if so many were put in.
     pub fn full(&self) -> Option<[u8; N]>
-        ensures { MatchOption result (length self.now < N) (λ b. (b ≡ self.now) × (length self.now ≡ N)) }
+        ensures { MatchOption result (length self.now < N)
+            (λ b. (b ≡ self.now) × (length self.now ≡ N)) }
     {
         if self.len < N {
             return None;
@@ -50,7 +52,7 @@ impl<const N: usize> Buffer<N> {
         Some(self.bytes)
     }
 
-    // Puts bytes behind the others, as many as there is room for.
+    /// Puts bytes behind the others, as many as there is room for.
     pub fn extend(&mut self, s: &[u8])
         ensures { self.new ≡ take N (self.old ++ s.now) }
     {

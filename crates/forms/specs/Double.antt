@@ -1,7 +1,8 @@
 -- Blocks as polynomials over the bits, modulo x^128 + x^7 + x^2 + x + 1, in the order of bits of
 -- NIST's GCM: the coefficient of 1 is the top bit of byte 0, and that of x^127 the low bit of byte
 -- 15.
-use Rattle.std.specs.Prelude.{ℕ, zero, suc, ◌+◌, ◌-◌, ◌*◌, ◌/◌, ◌%◌, ◌^◌, List, [], ◌∷◌, slice_index}
+use Rattle.std.specs.Prelude.{ℕ, zero, suc, ◌+◌, ◌-◌, ◌*◌, ◌/◌, ◌%◌, ◌^◌, List, [], ◌∷◌}
+use Rattle.std.specs.Prelude.{slice_index}
 use Rattle.block.specs.Bytes.{◌⊕◌}
 
 -- the bytes, each moved down by a bit, with the bit c on top of the first, and the low bit of each

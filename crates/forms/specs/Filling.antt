@@ -1,5 +1,6 @@
 -- How a header is filled up to whole blocks.
-use Rattle.std.specs.Prelude.{ℕ, ◌-◌, ◌%◌, ◌&&◌, List, ◌∷◌, ◌++◌, length, replicate, ◌==◌, nat_lt, if◌then◌else◌}
+use Rattle.std.specs.Prelude.{ℕ, ◌-◌, ◌%◌, ◌&&◌, List, ◌∷◌, ◌++◌, length, replicate, ◌==◌, nat_lt}
+use Rattle.std.specs.Prelude.{if◌then◌else◌}
 
 -- 80, and then 00 up to the next block boundary: whole blocks get a further block
 unfoldable pub padded : List ℕ → List ℕ

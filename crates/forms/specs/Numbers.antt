@@ -1,5 +1,6 @@
 -- Numbers below 2^64 as blocks.
-use Rattle.std.specs.Prelude.{ℕ, ◌/◌, ◌%◌, ◌^◌, List, [], ◌∷◌, ◌++◌, replicate, nat_lt, if◌then◌else◌}
+use Rattle.std.specs.Prelude.{ℕ, ◌/◌, ◌%◌, ◌^◌, List, [], ◌∷◌, ◌++◌, replicate, nat_lt}
+use Rattle.std.specs.Prelude.{if◌then◌else◌}
 
 -- byte i of a number, counted from the least significant one
 abbrev pub byte : ℕ → ℕ → ℕ

@@ -76,14 +76,23 @@ flat (p ∷ ps) = p ++ flat ps
 unfoldable pub finish : (e c : List ℕ → List ℕ) → List ℕ → Stream → List ℕ → AllRows
 finish e c S st fill =
     let z : State = last e c S st.at (st.held ++ fill) in
-    record { out = st.at.out ++ take (length st.held) z.out; rest = drop (length st.held) z.out; x = z.x; y = z.y }
+    record {
+      out = st.at.out ++ take (length st.held) z.out;
+      rest = drop (length st.held) z.out;
+      x = z.x;
+      y = z.y;
+    }
 
 -- However the bytes come in pieces, the rows are those of all of them, the rest is held back, and
 -- the end is that of the whole.
 pub record Pieces (e c : List ℕ → List ℕ) (s : State) (ps : List (List ℕ)) : Type 0 where
-  pub so_far : feeds e c (record { at = s; held = [] }) ps ≡ record { at = rows e c (whole (flat ps)) s (flat ps); held = drop (16 * whole (flat ps)) (flat ps) }
+  pub so_far : feeds e c (record { at = s; held = [] }) ps ≡ record {
+    at = rows e c (whole (flat ps)) s (flat ps);
+    held = drop (16 * whole (flat ps)) (flat ps);
+  }
   pub at_end : (S fill : List ℕ)
-      → finish e c S (feeds e c (record { at = s; held = [] }) ps) fill ≡ all_rows e c S s (flat ps) fill
+      → finish e c S (feeds e c (record { at = s; held = [] }) ps) fill
+      ≡ all_rows e c S s (flat ps) fill
 
 abbrev pub PiecesLaw : Type 0
 PiecesLaw = (e c : List ℕ → List ℕ) (s : State) (ps : List (List ℕ)) → Pieces e c s ps

@@ -1,10 +1,11 @@
-// POET v2.0 as definitions and laws, over functions of which only their laws are known.
-//
-// A function whose name ends in `_stands` does nothing: its contract is a theorem, and the crate is
-// refused without the proof.
+//! POET v2.0 as definitions and laws, over functions of which only their laws are known.
+//!
+//! A function whose name ends in `_stands` does nothing: its contract is a theorem, and the crate is
+//! refused without the proof.
 #![tactic(auto)]
 
-ghost use Rattle.poet.specs.Laws.{ComputingLaw, LawfulSome, OpeningLaw, OpeningPrefix, PiecesLaw, PrefixLaw, SealingPrefix, TagLaw};
+ghost use Rattle.poet.specs.Laws.{ComputingLaw, LawfulSome, OpeningLaw, OpeningPrefix, PiecesLaw};
+ghost use Rattle.poet.specs.Laws.{PrefixLaw, SealingPrefix, TagLaw};
 
 /// A theorem: what the definitions compute is the seal by its equations, and nothing else is; a
 /// seal's ciphertext is as long as its message, and its tag has sixteen bytes.

@@ -1,4 +1,4 @@
-// Block ciphers and hashes that are made from a key, and AES-128 as such.
+//! Block ciphers and hashes that are made from a key, and AES-128 as such.
 ghost use Rattle.aes.specs.Cipher.{cipher, cipher4, inv_cipher};
 ghost use Rattle.aes.specs.Expansion.{aes, aes4, inv_aes, schedule};
 ghost use Rattle.aes.proofs.Schedules.{expands, held};
@@ -19,6 +19,7 @@ pub trait KeyedHash: ChainingHash {
     // what holds of a value that was made from a key
     ghost IsUnder: { Self → List ℕ → Type 0 };
 
+    /// The hash under a key.
     fn under(key: [u8; 16]) -> Self
         ensures { IsUnder result key };
 

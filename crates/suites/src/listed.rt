@@ -1,4 +1,4 @@
-// The listed suites, told by their numbers.
+//! The listed suites, told by their numbers.
 ghost use Rattle.std.specs.Prelude.{◌≡◌};
 ghost use Rattle.suites.specs.Listed.{IsSuite, LawfulLaw, NumberLaw, listed};
 
@@ -8,13 +8,16 @@ use crate::submission::{PoetAesFour, PoetAesTen};
 use fault::kinds::{KeyFault, Placed};
 use suite::Suite;
 
-// The number of each.
+/// The number of the shaft suite.
 pub const SHAFT: u8 = 1;
 
+/// The number of POET-AES10-AES4.
 pub const POET_AES_FOUR: u8 = 2;
 
+/// The number of POET-AES10-AES10.
 pub const POET_AES_TEN: u8 = 3;
 
+/// The number of the mirror suite.
 pub const MIRROR: u8 = 4;
 
 /// A listed suite.

@@ -1,4 +1,4 @@
-// The mirror suite, for trials of the mode alone: it is no cipher.
+//! The mirror suite, for trials of the mode alone: it is no cipher.
 ghost use Rattle.forms.proofs.Fillings.{filled_bytes};
 ghost use Rattle.forms.proofs.Forming.{chained_lawful};
 ghost use Rattle.forms.proofs.Reversing.{reversal};

@@ -1,4 +1,4 @@
-// Suites made of one block cipher.
+//! Suites made of one block cipher.
 ghost use Rattle.forms.specs.Keyed.{keyed_by};
 ghost use Rattle.forms.proofs.Forming.{keyed_lawful};
 
