@@ -1,8 +1,8 @@
-// The suite: no cipher.
+//! The suite: no cipher.
 ghost use Rattle.block.specs.Bytes.{◌⊕◌};
 ghost use Rattle.std.specs.Prelude.{replicate};
-ghost use Rattle.suite_trials.specs.Flipped.{flipped, pattern};
-ghost use Rattle.suite_trials.specs.Flips.{flipped_lawful, flips};
+ghost use Rattle.trial_forms.specs.Flipped.{flipped, pattern};
+ghost use Rattle.trial_forms.proofs.Flips.{flipped_lawful, flips};
 
 use block::xor;
 use suite::{ChainingHash, HeaderDigest, Keyed, Permutation, Suite};

@@ -1,12 +1,12 @@
-// The calls under the suite, each with the promise that it makes under every suite. None needs a
-// proof: the call alone gives it.
+//! The calls under the suite, each with the promise that it makes under every suite. None needs a
+//! proof: the call alone gives it.
 ghost use Rattle.delivery.specs.Sheets.{SheetOpened, SheetSeals};
 ghost use Rattle.poet.specs.Seal.{Seals};
 ghost use Rattle.reading.specs.Replies.{AllAnswered};
 ghost use Rattle.session.specs.Plays.{CoursePlayed};
 ghost use Rattle.sheet.specs.Entries.{Item};
 ghost use Rattle.std.specs.Prelude.{◌≡◌, ◌≤◌, ◌↔◌, ℕ, List, length, take, IfOk, IsOk};
-ghost use Rattle.suite_trials.specs.Flipped.{flipped};
+ghost use Rattle.trial_forms.specs.Flipped.{flipped};
 
 use crate::flipped::Flipped;
 use delivery::sheets::open_sheet_as;

@@ -1,4 +1,4 @@
-// One sheet sealed under the suite, opened and read.
+//! One sheet sealed under the suite, opened and read.
 use crate::promised::{open, open_sheet, play_reader, seal};
 use reading::{Ask, Call, Reply};
 use std::process::Abort;

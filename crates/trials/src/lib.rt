@@ -1,4 +1,5 @@
-// Tests over all layers: given figures, seals by another program, sessions, and every refusal at its limit and one past it.
+//! Tests over all layers: given figures, seals by another program, sessions, and every refusal at
+//! its limit and one past it.
 #![tactic(auto)]
 
 pub mod caller;

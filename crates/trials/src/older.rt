@@ -1,9 +1,10 @@
-// The submission's suites with the older form of its header digest, by which its published vectors were made.
+//! The submission's suites with the older form of its header digest, by which its published vectors
+//! were made.
 ghost use Rattle.aes.specs.Expansion.{aes, inv_aes};
 ghost use Rattle.std.specs.Prelude.{◌≡◌, ℕ, ◌≤◌, List, [], ◌∷◌, ◌++◌, length, replicate};
 ghost use Rattle.suites.proofs.Lawful.{aes_inverts};
-ghost use Rattle.trials.specs.Older.{last_mask, older, older_suite};
-ghost use Rattle.trials.specs.Olders.{older_lawful};
+ghost use Rattle.trial_forms.specs.Older.{last_mask, older, older_suite};
+ghost use Rattle.trial_forms.proofs.Olders.{older_lawful};
 
 use block::{complete, xor};
 use buffer::Buffer;

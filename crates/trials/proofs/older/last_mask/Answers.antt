@@ -1,7 +1,7 @@
 use Rattle.std.proofs.Common.{◌≡◌, ◌<◌, ◌∙◌, sym, ap, length, rules, arith}
 use Rattle.block.specs.Bytes.{◌⊕◌}
 use Rattle.forms.specs.Double.{double}
-use Rattle.trials.specs.Olders.{last_whole, last_filled}
+use Rattle.trial_forms.proofs.Olders.{last_whole, last_filled}
 use Rattle.trials.proofs.older.last_mask.Goals as goal
 
 pub returns-then-held-eq16 : goal.returns-then-held-eq16

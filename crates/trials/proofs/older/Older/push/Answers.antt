@@ -1,5 +1,5 @@
 use Rattle.std.proofs.Common.{[], ◌∷◌, ◌++◌, ◌∙◌, take, ap}
-use Rattle.trials.specs.Older.{older}
+use Rattle.trial_forms.specs.Older.{older}
 use Rattle.trials.proofs.Pushing.{added}
 use Rattle.trials.proofs.older.Older.push.Goals as goal
 

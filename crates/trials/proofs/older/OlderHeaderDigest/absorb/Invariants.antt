@@ -1,5 +1,5 @@
 use Rattle.std.proofs.Common.{◌≡◌, ℕ, List, ◌++◌, drop}
-use Rattle.trials.specs.Older.{older}
+use Rattle.trial_forms.specs.Older.{older}
 use Rattle.trials.proofs.older.OlderHeaderDigest.absorb.Given as goal
 
 abbrev pub invariant-loop-b : goal.invariant-loop-b

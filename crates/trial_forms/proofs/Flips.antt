@@ -1,4 +1,4 @@
--- Nothing to believe: the suite is lawful.
+-- The suite with no cipher is lawful.
 use Rattle.std.specs.Prelude.{ℕ, List, refl}
 use Rattle.std.proofs.Common.{lit<}
 use Rattle.block.specs.Bytes.{Block, ◌⊕◌}
@@ -7,7 +7,7 @@ use Rattle.poet.specs.Functions.{Lawful}
 use Rattle.block.proofs.Xors.{block_xor, bytes_replicate, xor_twice}
 use Rattle.forms.proofs.Endian.{big_endian_block}
 use Rattle.forms.proofs.Forming.{zeros_block}
-use Rattle.suite_trials.specs.Flipped.{pattern, flipped}
+use Rattle.trial_forms.specs.Flipped.{pattern, flipped}
 
 pattern_block : Block pattern
 pattern_block = record { long = refl; bytes = bytes_replicate 16 0x5A (lit< tt) }

@@ -1,5 +1,5 @@
--- A suite that no list has: E and D add a block of 5A, F returns its block, numbers are big-endian, and
--- every header has the same digest, zeros.
+-- A suite that no list has: E and D add a block of 5A, F returns its block, numbers are big-endian,
+-- and every header has the same digest, zeros.
 use Rattle.std.specs.Prelude.{ℕ, List, replicate}
 use Rattle.block.specs.Bytes.{◌⊕◌}
 use Rattle.poet.specs.Functions.{Functions}

@@ -1,2 +1,2 @@
-pub mod Older
+pub mod Flips
 pub mod Olders

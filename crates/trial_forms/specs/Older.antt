@@ -10,7 +10,8 @@ use Rattle.forms.specs.Keyed.{Cipher, key_of}
 use Rattle.forms.specs.Masked.{mask, summed}
 use Rattle.forms.specs.Submitted.{zeros}
 
--- the mask of the last block: 3 times M for one that was whole, and 5 times M for one that was filled
+-- the mask of the last block: 3 times M for one that was whole, and 5 times M for one that was
+-- filled
 unfoldable pub last_mask : List ℕ → List ℕ → List ℕ
 last_mask H M =
     if nat_lt 0 (length H) && length H % 16 == 0 then M ⊕ double M else M ⊕ double (double M)

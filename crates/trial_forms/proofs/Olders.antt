@@ -1,4 +1,4 @@
--- Nothing to believe: the older digest goes on block by block, and its suites are lawful.
+-- The older digest goes on block by block, and its suites are lawful.
 use Rattle.std.specs.Prelude.{◌≡◌, ℕ, suc, ◌-◌, ◌/◌, ◌%◌, ◌<◌, ◌≤◌, true, ltb, List, ◌∷◌, ◌++◌, length, take, replicate, ◌==◌, nat_lt}
 use Rattle.std.proofs.Math.Path.{ap}
 use Rattle.std.proofs.Common.{inl, inr, ◌∙◌, arith, length-append, length-take, take_all}
@@ -19,7 +19,7 @@ use Rattle.forms.proofs.Endian.{coded_block, either_block}
 use Rattle.forms.proofs.Fillings.{stays, filled_front, filled_whole, filled_end, filled_bytes}
 use Rattle.forms.proofs.Forming.{key_block, zeros_block}
 use Rattle.forms.proofs.Sums.{sum_next, mask_next, mask_block, sum_block}
-use Rattle.trials.specs.Older.{last_mask, older, older_suite}
+use Rattle.trial_forms.specs.Older.{last_mask, older, older_suite}
 
 last_front : (p q M : List ℕ) → length p ≡ 16 → 1 ≤ length q → last_mask (p ++ q) M ≡ last_mask q M
 unfolding last_mask

@@ -1,2 +1,0 @@
-pub mod Flipped
-pub mod Flips

@@ -1,0 +1,3 @@
+pub mod Flipped
+pub mod Older
+pub mod Laws
