@@ -1,6 +1,6 @@
-// Trials of AES-128, both ways: the examples of FIPS 197, vectors of other implementations, and the
-// substitution against the tables of `field`. The published vectors of POET-AES10-AES4, in crate
-// `trials`, try four rounds too.
+//! Trials of AES-128, both ways: the examples of FIPS 197, vectors of other implementations, and
+//! the substitution against the tables of `field`. The published vectors of POET-AES10-AES4, in
+//! crate `trials`, try four rounds too.
 #![tactic(auto)]
 
 #[cfg(test)]

@@ -1,9 +1,9 @@
-// Keys and blocks with what they encipher to: ten at random, then all zeros and all ones, then the
-// seven texts by which AESAVS tries the substitution (GFSbox), under the key of zeros.
-//
-// `ten` is by OpenSSL. `four`, which no standard publishes, is by the AES instructions of an x86
-// processor: round key 0, then four times AESENC, which mixes columns, under the keys 1 to 4. The
-// same program gives `ten` by AESENC nine times and AESENCLAST.
+//! Keys and blocks with what they encipher to: ten at random, then all zeros and all ones, then the
+//! seven texts by which AESAVS tries the substitution (GFSbox), under the key of zeros.
+//!
+//! `ten` is by OpenSSL. `four`, which no standard publishes, is by the AES instructions of an x86
+//! processor: round key 0, then four times AESENC, which mixes columns, under the keys 1 to 4. The
+//! same program gives `ten` by AESENC nine times and AESENCLAST.
 
 #[derive(Clone, Copy)]
 pub struct Vector {

@@ -1,5 +1,6 @@
-// A caller's program: one message sealed by a session in a single stretch. The compiler refuses it once it adds header bytes after the
-// start, or asks a finished session for a second tag (docs/REFUSALS.md).
+//! A caller's program: one message sealed by a session in a single stretch. The compiler refuses it
+//! once it adds header bytes after the start, or asks a finished session for a second tag
+//! (docs/REFUSALS.md).
 use fault::kinds::{Placed, SessionFault};
 use session::Heading;
 use session::keys::KeyPlace;

@@ -1,7 +1,8 @@
-// Suites 1 to 3 against another program at many lengths: messages of 1 to 100 bytes under headers of 0 to 66, each sealed under a key that
-// comes of all that was sealed before, and opened again.
-//
-// The expected values are those that `tools/seals.py` prints, which shares no code with the crates.
+//! Suites 1 to 3 against another program at many lengths: messages of 1 to 100 bytes under headers
+//! of 0 to 66, each sealed under a key that comes of all that was sealed before, and opened again.
+//!
+//! The expected values are those that `tools/seals.py` prints, which shares no code with the
+//! crates.
 use delivery::message::{open, seal};
 use std::array;
 use std::process::Abort;

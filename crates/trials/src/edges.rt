@@ -1,8 +1,9 @@
-// Suites 1 to 3 against another program about the ends of blocks: headers of none to many blocks
-// and a byte more or less, messages about many blocks, and the longest one. Each is opened again,
-// and all but the longest are refused once a bit is turned.
-//
-// The expected values are those that `tools/seals.py` prints, which shares no code with the crates.
+//! Suites 1 to 3 against another program about the ends of blocks: headers of none to many blocks
+//! and a byte more or less, messages about many blocks, and the longest one. Each is opened again,
+//! and all but the longest are refused once a bit is turned.
+//!
+//! The expected values are those that `tools/seals.py` prints, which shares no code with the
+//! crates.
 use delivery::message::{open, seal};
 use fault::kinds::SessionFault;
 use std::alloc::{AllocError, Global};

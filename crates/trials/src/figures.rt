@@ -1,4 +1,4 @@
-// Figures that the mirror suite must give under the empty header.
+//! Figures that the mirror suite must give under the empty header.
 use session::whole::{open, seal};
 use std::test::Fail;
 use suite::{ChainingHash, HeaderDigest, Permutation, Suite};

@@ -1,4 +1,5 @@
-// Every refusal of the calls for whole buffers, at its limit and one past it, in its order, and what the buffers then hold.
+//! Every refusal of the calls for whole buffers, at its limit and one past it, in its order, and
+//! what the buffers then hold.
 use fault::kinds::{KeyFault, Placed, SessionFault};
 use session::whole::{open, seal};
 use std::alloc::Global;

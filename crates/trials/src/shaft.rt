@@ -1,4 +1,5 @@
-// Suite 1, told by its number: seals by another program, both ways, and every byte of one seal damaged.
+//! Suite 1, told by its number: seals by another program, both ways, and every byte of one seal
+//! damaged.
 use crate::vectors::VECTORS;
 use delivery::message::{open, seal};
 use fault::kinds::{Placed, SessionFault};
@@ -44,7 +45,8 @@ fn opens(rt: HostRuntime) -> Result<(), Fail> {
     Ok(())
 }
 
-// Checks that an opening with this part damaged is refused as forged, and leaves zeros where the message would have stood and nothing else altered.
+// Checks that an opening with this part damaged is refused as forged, and leaves zeros where the
+// message would have stood and nothing else altered.
 fn forged(
     rt: &impl Abort,
     what: &str,

@@ -1,4 +1,5 @@
-// Sessions: one message cut in many ways gives one result, a session goes on after a refusal, and every call answers by its rule.
+//! Sessions: one message cut in many ways gives one result, a session goes on after a refusal, and
+//! every call answers by its rule.
 ghost use Rattle.std.specs.Prelude.{◌≤◌};
 
 use crate::caller::seal_once;

@@ -1,4 +1,5 @@
-// Numbers of suites that are not listed are refused before every other check, and nothing is altered.
+//! Numbers of suites that are not listed are refused before every other check, and nothing is
+//! altered.
 use delivery::message::{open, seal};
 use fault::kinds::{KeyFault, Placed, SessionFault};
 use std::process::Abort;
