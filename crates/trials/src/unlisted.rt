@@ -1,5 +1,6 @@
 //! Numbers of suites that are not listed are refused before every other check, and nothing is
 //! altered.
+use anyhow::anyhow;
 use delivery::message::{open, seal};
 use fault::kinds::{KeyFault, Placed, SessionFault};
 use std::process::Abort;
@@ -65,5 +66,24 @@ fn unlisted_numbers(rt: HostRuntime) -> Result<(), Fail> {
             &TAG[0..12],
         )?;
     }
+    Ok(())
+}
+
+// A seal under this number, where a refusal goes up as an error of any kind.
+fn sealed_under(suite: u8) -> anyhow::Result<usize> {
+    let mut out = [0; 4];
+    let mut tag = TAG;
+    Ok(seal(suite, &KEY, &[], &[1, 2, 3, 4], &mut out, &mut tag)?)
+}
+
+/// A refusal is an error with a text, which `?` hands on.
+#[test]
+fn goes_up_as_an_error(rt: HostRuntime) -> anyhow::Result<()> {
+    assert_eq!(rt; sealed_under(1)?, 4);
+    let Err(error) = sealed_under(5) else {
+        return Err(anyhow!("an unlisted suite sealed"));
+    };
+    let text = format!(in rt.alloc(); "{error}")?;
+    assert!(rt; text.as_str() == "refused 2 by the key layer at 5");
     Ok(())
 }
