@@ -11,6 +11,3 @@ pub mod Passing
 pub mod Calling
 pub mod Straights
 pub mod Judging
-pub mod Stepping
-pub mod Playings
-pub mod Courses

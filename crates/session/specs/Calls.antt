@@ -1,5 +1,5 @@
 -- What the calls for whole buffers do: which refusal they give, or what they write.
-use Rattle.std.specs.Prelude.{◌≡◌, ℕ, ◌≤◌, ◌↔◌, if◌then◌else◌, List, ◌++◌, length, take, drop, replicate, Some, None, Ok, Err, IsOk, IfOk, IfErr, OnErr, Option, Result, ◌==◌, nat_lt}
+use Rattle.std.specs.Prelude.{◌≡◌, ℕ, ◌≤◌, ◌↔◌, if◌then◌else◌, List, ◌++◌, length, take, drop, replicate, Some, None, IsOk, IfOk, IfErr, OnErr, Option, Result, ◌==◌, nat_lt}
 use Rattle.std.specs.Option.{option_or, option_map}
 use Rattle.fault.specs.declared.kinds.Layer.TheVariants.{Key as KeyLayer, Session as SessionLayer}
 use Rattle.fault.specs.declared.kinds.KeyFault.{KeyFault}
@@ -7,7 +7,7 @@ use Rattle.fault.specs.declared.kinds.KeyFault.TheVariants.{Length}
 use Rattle.fault.specs.declared.kinds.SessionFault.{SessionFault}
 use Rattle.fault.specs.declared.kinds.SessionFault.TheVariants.{Key, Header, Body, Room, Empty, Tag, Forged}
 use Rattle.fault.specs.declared.kinds.Placed.{Placed}
-use Rattle.fault.specs.Refusals.{Refusal, refusal, placed, inside, IsRefusal, Refuses, RefusedBy, session_faults}
+use Rattle.fault.specs.Refusals.{Refusal, refusal, inside, IsRefusal, Refuses, RefusedBy, session_faults}
 use Rattle.poet.specs.Functions.{Functions}
 use Rattle.poet.specs.Seal.{header_most, body_most, Seals}
 
@@ -45,11 +45,6 @@ open_checks key H C T o = checks key H C (length o) (tag_check T 0)
 -- the refusal of n bytes that no message seals to
 abbrev pub forged : (n : ℕ) → Refusal SessionFault
 forged n = refusal Forged 9 SessionLayer n
-
--- a refusal, or the answer x
-abbrev pub answered : {F X : Type 0} → Option (Refusal F) → X → Result X (Placed F)
-answered (Some e) x = Err (placed e)
-answered None x = Ok x
 
 -- A sealing that answers r, under the functions that `under` gives for a key; the buffers o and t
 -- became o' and t'.

@@ -6,7 +6,3 @@ pub mod Runs
 pub mod Promise
 pub mod Sessions
 pub mod Straight
-pub mod Logs
-pub mod Scripts
-pub mod Playing
-pub mod Plays

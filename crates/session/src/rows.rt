@@ -1,13 +1,16 @@
-// The two ways through the rows: sealing goes with E from X to Y, and opening with D from Y to X.
+//! The two ways through the rows: sealing goes with E from X to Y, and opening with D from Y to X.
 ghost use Rattle.std.specs.Prelude.{◌≡◌};
 ghost use Rattle.session.specs.Directions.{Direction, opening, picks, sealing, turns};
 ghost use Rattle.session.specs.Steps.{lanes};
 
 use suite::{Permutation, Suite};
 
-// A way through the rows. It is public because the types of sessions name it, but this module is
-// not: nothing outside implements it.
-pub trait Way {
+/// Outside this crate nothing can name this trait, so nothing there implements `Way`.
+pub trait Sealed {}
+
+/// A way through the rows: what a sealing and an opening do differently. It is public, so that a
+/// function can take a session of either way, and sealed: no third way has a meaning.
+pub trait Way: Sealed {
     ghost way: { Direction };
 
     // The permutation's function that a row uses.
@@ -32,9 +35,15 @@ pub trait Way {
         ensures giving { result.giving ≡ (turns way (lanes x y)).y };
 }
 
+/// The way of a sealing.
 pub struct Seal;
 
+/// The way of an opening.
 pub struct Open;
+
+impl Sealed for Seal {}
+
+impl Sealed for Open {}
 
 impl Way for Seal {
     ghost way = { sealing };
@@ -84,7 +93,7 @@ impl Way for Open {
     }
 }
 
-// The last block of each sequence: blocks come in at `taking` and go out at `giving`.
+/// The last block of each sequence: blocks come in at `taking` and go out at `giving`.
 #[derive(Clone, Copy)]
 pub struct Lanes {
     pub(crate) taking: [u8; 16],

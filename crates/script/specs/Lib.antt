@@ -1,0 +1,4 @@
+pub mod Logs
+pub mod Scripts
+pub mod Playing
+pub mod Plays

@@ -1,5 +1,0 @@
-use Rattle.session.proofs.Playings.{headers_more}
-use Rattle.session.proofs.plays.header_calls.Goals as goal
-
-pub loop-stretch-preserved : goal.loop-stretch-preserved
-loop-stretch-preserved g c = headers_more c.args.stretches.now c.loop-stretch.stretch-index _ _ _ _ _ _ _ c.loop-stretch-test.true c.loop-stretch.invariant c.in_ok-header_call.ensures
