@@ -10,10 +10,9 @@ use Rattle.forms.specs.Chained.{chain_x, chain_y, chained}
 use Rattle.suites.specs.declared.listed.Listed.TheVariants.{Mirror}
 use Rattle.suites.specs.Mirror.{mirror}
 use Rattle.suites.proofs.Lawful.{listed_lawful}
-use Rattle.session.specs.declared.script.Answer.TheVariants.{Body}
-use Rattle.session.specs.Calls.{answered}
 use Rattle.session.specs.Sessions.{given_of}
-use Rattle.session.specs.Scripts.{held_of}
+use Rattle.script.specs.declared.played.Answer.TheVariants.{Body}
+use Rattle.script.specs.Scripts.{answered, held_of}
 use Rattle.sheet.specs.Table.{row_of}
 use Rattle.sheet.specs.Entries.{bytes}
 use Rattle.figures.specs.Figures.{Figures, BodyFigure, doors}

@@ -3,10 +3,10 @@
 use Rattle.std.specs.Prelude.{◌≡◌, ℕ, List, [], ◌∷◌, ◌++◌, length, replicate, None, Ok}
 use Rattle.poet.specs.Seal.{Seals}
 use Rattle.suites.specs.Mirror.{mirror}
-use Rattle.session.specs.declared.script.Answer.{Answer}
-use Rattle.session.specs.declared.script.Answer.TheVariants.{Body}
-use Rattle.session.specs.declared.script.Stretch.{Stretch}
-use Rattle.session.specs.Scripts.{held_of, body_check_of, body_answer, body_answers}
+use Rattle.script.specs.declared.played.Answer.{Answer}
+use Rattle.script.specs.declared.played.Answer.TheVariants.{Body}
+use Rattle.script.specs.declared.course.Stretch.{Stretch}
+use Rattle.script.specs.Scripts.{held_of, body_check_of, body_answer, body_answers}
 use Rattle.sheet.specs.Entries.{Item, Good, bytes}
 use Rattle.listing.specs.Lines.{need}
 

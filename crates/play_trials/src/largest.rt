@@ -1,8 +1,6 @@
 //! The longest header and the longest message, in stretches, sealed and opened again.
+use script::{Answer, Course, End, Played, Stretch, play};
 use session::KeyPlace;
-use session::logs::Played;
-use session::play::play;
-use session::script::{Answer, Course, End, Stretch};
 use std::alloc::{AllocError, Global};
 use std::test::Fail;
 use suites::shaft::Shaft;

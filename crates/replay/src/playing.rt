@@ -2,9 +2,8 @@
 use crate::report::report;
 use crate::text::{Body, Piece, Written};
 use fault::kinds::{KeyFault, Placed};
-use session::keys::KeyPlace;
-use session::play::play;
-use session::script::{Course, Stretch};
+use script::{Course, Stretch, play};
+use session::KeyPlace;
 use std::alloc::Global;
 use std::io::{BufRead, Write};
 use suite::Suite;

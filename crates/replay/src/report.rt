@@ -1,7 +1,6 @@
 //! What came of a session that was played.
 use hexits::Hex;
-use session::logs::Played;
-use session::script::{Answer, End};
+use script::{Answer, End, Played};
 use std::io::Write;
 
 /// Writes what each call answered, what was taken and handed out, and how the session ended.

@@ -3,7 +3,7 @@
 ghost use Rattle.delivery.specs.Sheets.{SheetOpened, SheetSeals};
 ghost use Rattle.poet.specs.Seal.{Seals};
 ghost use Rattle.reading.specs.Replies.{AllAnswered};
-ghost use Rattle.session.specs.Plays.{CoursePlayed};
+ghost use Rattle.script.specs.Plays.{CoursePlayed};
 ghost use Rattle.sheet.specs.Entries.{Item};
 ghost use Rattle.std.specs.Prelude.{◌≡◌, ◌≤◌, ◌↔◌, ℕ, List, length, take, IfOk, IsOk};
 ghost use Rattle.trial_forms.specs.Flipped.{flipped};
@@ -12,10 +12,8 @@ use crate::flipped::Flipped;
 use delivery::sheets::open_sheet_as;
 use fault::kinds::{Placed, SessionFault, SheetFault};
 use reading::{Call, play_as};
-use session::keys::KeyPlace;
-use session::logs::Played;
-use session::script::{Course, End, Stretch};
-use session::{play, whole};
+use script::{Course, End, Played, Stretch, play};
+use session::{KeyPlace, whole};
 use std::alloc::{AllocError, Global};
 
 pub fn seal(
@@ -60,7 +58,7 @@ pub fn play_session(
     ensures { IfOk result
         (λ p. CoursePlayed course.entry flipped place.now.bytes headers.now p.0 p.1) }
 {
-    play::play::<Flipped>(heap, place, headers, course)
+    play::<Flipped>(heap, place, headers, course)
 }
 
 pub fn open_sheet(

@@ -4,9 +4,8 @@
 use crate::older::OlderSuite;
 use block::xor;
 use fault::kinds::{Placed, SessionFault};
-use session::keys::KeyPlace;
-use session::play::play;
-use session::script::{Answer, Course, End, Stretch};
+use script::{Answer, Course, End, Stretch, play};
+use session::KeyPlace;
 use session::whole::{open, seal};
 use std::alloc::{AllocError, Global};
 use std::process::Abort;

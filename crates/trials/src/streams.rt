@@ -4,10 +4,8 @@ ghost use Rattle.std.specs.Prelude.{◌≤◌};
 
 use crate::caller::seal_once;
 use fault::kinds::{Placed, SessionFault};
-use session::keys::KeyPlace;
-use session::logs::Played;
-use session::play::play;
-use session::script::{Answer, Course, End, Stretch};
+use script::{Answer, Course, End, Played, Stretch, play};
+use session::KeyPlace;
 use session::whole::seal;
 use std::alloc::{AllocError, Global};
 use std::process::Abort;
