@@ -27,12 +27,13 @@ use Rattle.session.specs.Runs.{Run, fresh, finished, last_of}
 use Rattle.session.specs.Promise.{Blocks}
 use Rattle.session.specs.Sessions.{HeadingAt, SessionAt, held, writes, sealing_check, opening_check}
 use Rattle.session.proofs.ByChecks.{SealedBy, OpenedBy}
-use Rattle.script.specs.Scripts.{run_of, headers_taken, header_answers, held_of, body_answers}
+use Rattle.script.specs.Scripts.{run_of, AllByTable, header_check_of, headers_taken, header_answers, held_of, body_answers}
 use Rattle.script.specs.Playing.{HeaderPlayed, BodyPlayed}
 use Rattle.script.specs.Logs.{FinishKept}
-use Rattle.script.specs.Plays.{HeldBack, LastHanded, SealEnds, OpenVerdict, OpenEnds, SealPromise, OpenPromise, SealingPlayed, OpeningPlayed, tag_of}
+use Rattle.script.specs.Plays.{HeldBack, LastHanded, SealEnds, OpenVerdict, OpenEnds, HeadPromise, SealPromise, OpenPromise, SealingPlayed, OpeningPlayed, tag_of}
 use Rattle.session.proofs.Promises.{blocks, agrees, seal_long, sealed_blocks}
 use Rattle.session.proofs.Nothing.{seal_end_passes}
+use Rattle.script.proofs.Tables.{headers_by_table, bodies_by_table}
 use Rattle.script.proofs.Stepping.{held_back, held_same}
 
 -- a finish that hands out nothing leaves the run as it was
@@ -80,13 +81,13 @@ module _ {A W B C D : Type 0} {u : suite.Ghosts A B C D} {x : permutation.Ghosts
   sealing_unfinished fin we fe = subst (λ (i : Bool). SealingPlayed bs i p p₁ Unfinished s) (sym fe) λ key a.
       let c = N.at key a in
       let b = stood we key c in
-      record { header = N.header; body = N.body key a; blocks = b; agrees = agrees sealing (u.under key) (L key c.taken.key_block) (run_of key p₁) b; finish = (refl, N.answers key a, held_back L (run_of key p₁) s₁ c) }
+      record { header = N.header; body = N.body key a; by_table = bodies_by_table (vec_items p.body) bs; blocks = b; agrees = agrees sealing (u.under key) (L key c.taken.key_block) (run_of key p₁) b; finish = (refl, N.answers key a, held_back L (run_of key p₁) s₁ c) }
 
   pub opening_unfinished : (o : Option (Bor (List ℕ))) → w.way ≡ opening → o ≡ None → OpeningPlayed bs o p p₁ Unfinished s
   opening_unfinished o we ne = subst (λ (i : Option (Bor (List ℕ))). OpeningPlayed bs i p p₁ Unfinished s) (sym ne) λ key a.
       let c = N.at key a in
       let b = stood we key c in
-      record { header = N.header; body = N.body key a; blocks = b; agrees = agrees opening (u.under key) (L key c.taken.key_block) (run_of key p₁) b; finish = (refl, N.answers key a, held_back L (run_of key p₁) s₁ c) }
+      record { header = N.header; body = N.body key a; by_table = bodies_by_table (vec_items p.body) bs; blocks = b; agrees = agrees opening (u.under key) (L key c.taken.key_block) (run_of key p₁) b; finish = (refl, N.answers key a, held_back L (run_of key p₁) s₁ c) }
 
   module _ (p₂ : Played) (last : List ℕ) (r : Result ℕ (Placed SessionFault)) (F : FinishKept r last p₁ p₂) where
     kept_answers : (key : List ℕ) → SessionAt (run_of key p) s → vec_items p₂.answers ≡ vec_items p.answers ++ body_answers (vec_items p.body) bs ++ Finish r ∷ []
@@ -103,6 +104,7 @@ module _ {A W B C D : Type 0} {u : suite.Ghosts A B C D} {x : permutation.Ghosts
         record {
           header = ap vec_items F.header ∙ N.header;
           body = ap vec_items F.body ∙ N.body key a;
+          by_table = bodies_by_table (vec_items p.body) bs;
           blocks = b;
           agrees = agrees sealing (u.under key) l (run_of key p₂) b;
           finish = (r, last, tag, refl, kept_answers key a, subst (λ (Q : Run). SealEnds (sealing_check Q) (u.under key) Q r last tag) run q.1);
@@ -119,6 +121,7 @@ module _ {A W B C D : Type 0} {u : suite.Ghosts A B C D} {x : permutation.Ghosts
         record {
           header = ap vec_items F.header ∙ N.header;
           body = ap vec_items F.body ∙ N.body key a;
+          by_table = bodies_by_table (vec_items p.body) bs;
           blocks = b;
           agrees = agrees opening (u.under key) l (run_of key p₂) b;
           finish = (r, last, refl, kept_answers key a, subst (λ (Q : Run). OpenEnds (opening_check Q t.now) (u.under key) Q t.now r last) run q.1);
@@ -139,12 +142,15 @@ module _ {A B C D : Type 0} {u : suite.Ghosts A B C D} {x : permutation.Ghosts B
   answers_are : vec_items p₁.answers ≡ header_answers [] hs
   answers_are = played.answers key begun ∙ ap₂ (λ before H. before ++ header_answers H hs) none.3 none.0
 
+  pub heading_course : HeadPromise hs p₁ Unfinished × AllByTable header_check_of [] hs
+  heading_course = (record { header = headers_are; body = headed_at.no_body; out = headed_at.no_out; answers = answers_are; end = refl }, headers_by_table [] hs)
+
   pub sealing_course : {W : Type 0} {w : way.Ghosts W} → (bs : List Stretch) (fin : Bool) (c : Session A W B C D u x y z w) → ((R : Run) → HeadingAt R s₁ → SessionAt R c) → (r : Result (Played × End) AllocError)
-      → IfOk r (λ q. SealingPlayed {u = u} bs fin p₁ q.0 q.1 c) → IfOk r (λ q. SealPromise u.under key (headers_taken [] hs) [] (header_answers [] hs) bs fin q.0 q.1)
+      → IfOk r (λ q. SealingPlayed {u = u} bs fin p₁ q.0 q.1 c) → IfOk r (λ q. SealPromise u.under key (headers_taken [] hs) [] (header_answers [] hs) bs fin q.0 q.1 × AllByTable header_check_of [] hs)
   sealing_course bs fin c start r m =
-      IfOk-weaker r _ _ (λ q a. subst (λ (H : List ℕ). SealPromise u.under key H [] (header_answers [] hs) bs fin q.0 q.1) headers_are (subst (λ (M : List ℕ). SealPromise u.under key (vec_items p₁.header) M (header_answers [] hs) bs fin q.0 q.1) headed_at.no_body (subst (λ (before : List Answer). SealPromise u.under key (vec_items p₁.header) (vec_items p₁.body) before bs fin q.0 q.1) answers_are (a key (start (run_of key p₁) headed_at))))) m
+      IfOk-weaker r _ _ (λ q a. (subst (λ (H : List ℕ). SealPromise u.under key H [] (header_answers [] hs) bs fin q.0 q.1) headers_are (subst (λ (M : List ℕ). SealPromise u.under key (vec_items p₁.header) M (header_answers [] hs) bs fin q.0 q.1) headed_at.no_body (subst (λ (before : List Answer). SealPromise u.under key (vec_items p₁.header) (vec_items p₁.body) before bs fin q.0 q.1) answers_are (a key (start (run_of key p₁) headed_at)))), headers_by_table [] hs)) m
 
   pub opening_course : {W : Type 0} {w : way.Ghosts W} → (bs : List Stretch) (tag : Option (Bor (List ℕ))) (c : Session A W B C D u x y z w) → ((R : Run) → HeadingAt R s₁ → SessionAt R c) → (r : Result (Played × End) AllocError)
-      → IfOk r (λ q. OpeningPlayed {u = u} bs tag p₁ q.0 q.1 c) → IfOk r (λ q. OpenPromise u.under key (headers_taken [] hs) [] (header_answers [] hs) bs (tag_of tag) q.0 q.1)
+      → IfOk r (λ q. OpeningPlayed {u = u} bs tag p₁ q.0 q.1 c) → IfOk r (λ q. OpenPromise u.under key (headers_taken [] hs) [] (header_answers [] hs) bs (tag_of tag) q.0 q.1 × AllByTable header_check_of [] hs)
   opening_course bs tag c start r m =
-      IfOk-weaker r _ _ (λ q a. subst (λ (H : List ℕ). OpenPromise u.under key H [] (header_answers [] hs) bs (tag_of tag) q.0 q.1) headers_are (subst (λ (M : List ℕ). OpenPromise u.under key (vec_items p₁.header) M (header_answers [] hs) bs (tag_of tag) q.0 q.1) headed_at.no_body (subst (λ (before : List Answer). OpenPromise u.under key (vec_items p₁.header) (vec_items p₁.body) before bs (tag_of tag) q.0 q.1) answers_are (a key (start (run_of key p₁) headed_at))))) m
+      IfOk-weaker r _ _ (λ q a. (subst (λ (H : List ℕ). OpenPromise u.under key H [] (header_answers [] hs) bs (tag_of tag) q.0 q.1) headers_are (subst (λ (M : List ℕ). OpenPromise u.under key (vec_items p₁.header) M (header_answers [] hs) bs (tag_of tag) q.0 q.1) headed_at.no_body (subst (λ (before : List Answer). OpenPromise u.under key (vec_items p₁.header) (vec_items p₁.body) before bs (tag_of tag) q.0 q.1) answers_are (a key (start (run_of key p₁) headed_at)))), headers_by_table [] hs)) m

@@ -1,3 +1,4 @@
 pub mod Stepping
 pub mod Playings
 pub mod Courses
+pub mod Tables

@@ -1,6 +1,7 @@
 -- The promise of a written session, whole: what it takes, answers and hands out, and what that
 -- means.
-use Rattle.std.specs.Prelude.{◌≡◌, ℕ, ◌-◌, Bool, true, false, List, [], ◌∷◌, ◌++◌, length, take, drop, replicate, Some, None, Ok, Err, vec_items, Option, Result}
+use Rattle.std.specs.Prelude.{◌≡◌, ℕ, ◌-◌, Bool, true, false, List, [], ◌∷◌, ◌++◌, length}
+use Rattle.std.specs.Prelude.{take, drop, replicate, vec_items, Some, None, Ok, Err, Option, Result}
 use Rattle.std.specs.Borrow.{Bor}
 use Rattle.fault.specs.declared.kinds.SessionFault.{SessionFault}
 use Rattle.fault.specs.declared.kinds.Placed.{Placed}
@@ -26,7 +27,8 @@ use Rattle.session.specs.Runs.{Run}
 use Rattle.session.specs.Promise.{Blocks, AgreesWith}
 use Rattle.session.specs.Calls.{forged}
 use Rattle.session.specs.Sessions.{SessionAt, writes, sealing_check, opening_check}
-use Rattle.script.specs.Scripts.{run_of, headers_taken, header_answers, bodies_taken, body_answers, held_of}
+use Rattle.script.specs.Scripts.{run_of, AllByTable, header_check_of, body_check_of, held_of}
+use Rattle.script.specs.Scripts.{headers_taken, header_answers, bodies_taken, body_answers}
 
 -- Where no finish was accepted, the body calls handed out every whole block that at least one byte
 -- follows, and the rest is held back.
@@ -64,7 +66,7 @@ OpenEnds (Some e) f R T r last = Refuses session_faults e r × (last ≡ replica
 OpenEnds None f R T r last = OpenVerdict f R T r last
 
 -- What is promised of a sealing under `key`: H is the header taken, M and `before` what was taken
--- and answered before the body calls bs.
+-- and answered before the body calls bs. A refusal has its number and layer by the table of faults.
 abbrev pub SealFinish : Bool → (f : Functions) (R : Run) (answers : List Answer) (p : Played)
     (e : End) → Type 0
 SealFinish false f R answers p e = (e ≡ Unfinished) × (vec_items p.answers ≡ answers) × HeldBack R
@@ -76,6 +78,7 @@ pub record SealPromise (under : List ℕ → Functions) (key H M : List ℕ) (be
     (bs : List Stretch) (fin : Bool) (p : Played) (e : End) : Type 0 where
   pub header : vec_items p.header ≡ H
   pub body : vec_items p.body ≡ bodies_taken M bs
+  pub by_table : AllByTable body_check_of M bs
   pub blocks : Blocks sealing (under key) (run_of key p)
   pub agrees : AgreesWith sealing (under key) (run_of key p)
   pub finish : SealFinish fin (under key) (run_of key p) (before ++ body_answers M bs) p e
@@ -92,6 +95,7 @@ pub record OpenPromise (under : List ℕ → Functions) (key H M : List ℕ) (be
     (bs : List Stretch) (tag : Option (List ℕ)) (p : Played) (e : End) : Type 0 where
   pub header : vec_items p.header ≡ H
   pub body : vec_items p.body ≡ bodies_taken M bs
+  pub by_table : AllByTable body_check_of M bs
   pub blocks : Blocks opening (under key) (run_of key p)
   pub agrees : AgreesWith opening (under key) (run_of key p)
   pub finish : OpenFinish tag (under key) (run_of key p) (before ++ body_answers M bs) p e
@@ -108,11 +112,19 @@ abbrev pub tag_of : Option (Bor (List ℕ)) → Option (List ℕ)
 tag_of None = None
 tag_of (Some t) = Some t.now
 
-abbrev pub CoursePlayed : Course → (under : List ℕ → Functions) (key : List ℕ) (hs : List Stretch)
-    (p : Played) (e : End) → Type 0
-CoursePlayed Heading under key hs p e = HeadPromise hs p e
-CoursePlayed (Seal bodies fin) under key hs p e = SealPromise under key (headers_taken [] hs) [] (header_answers [] hs) bodies.now fin p e
-CoursePlayed (Open bodies tag) under key hs p e = OpenPromise under key (headers_taken [] hs) [] (header_answers [] hs) bodies.now (tag_of tag) p e
+-- what came of a course, by its kind
+abbrev pub CourseKept : Course → (under : List ℕ → Functions) (key : List ℕ)
+    → (hs : List Stretch) (p : Played) (e : End) → Type 0
+CourseKept Heading under key hs p e = HeadPromise hs p e
+CourseKept (Seal bodies fin) under key hs p e = SealPromise under key (headers_taken [] hs) []
+    (header_answers [] hs) bodies.now fin p e
+CourseKept (Open bodies tag) under key hs p e = OpenPromise under key (headers_taken [] hs) []
+    (header_answers [] hs) bodies.now (tag_of tag) p e
+
+-- The promise of a written session, whole.
+abbrev pub CoursePlayed : Course → (under : List ℕ → Functions) (key : List ℕ)
+    → (hs : List Stretch) (p : Played) (e : End) → Type 0
+CoursePlayed c under key hs p e = CourseKept c under key hs p e × AllByTable header_check_of [] hs
 
 -- the same from where a session stood when its body calls began
 abbrev pub SealingPlayed : {A W B C D : Type 0} {u : suite.Ghosts A B C D}

@@ -1,5 +1,8 @@
-use Rattle.script.proofs.Courses.{sealing_course, opening_course}
+use Rattle.script.proofs.Courses.{heading_course, sealing_course, opening_course}
 use Rattle.script.proofs.playing.play.Goals as goal
+
+pub returns-in-Heading : goal.returns-in-Heading
+returns-in-Heading g c = rw c.in-Heading.is (heading_course _ _ _ _ _ _ c.new-log.ensures c.new-heading.ensures c.in_ok-header_calls.ensures)
 
 pub returns-in-Seal : goal.returns-in-Seal
 returns-in-Seal g c =
