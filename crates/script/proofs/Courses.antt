@@ -20,8 +20,8 @@ use Rattle.script.specs.declared.played.End.{End}
 use Rattle.script.specs.declared.played.End.TheVariants.{Unfinished, Sealed, Opened}
 use Rattle.script.specs.declared.course.Stretch.{Stretch}
 use Rattle.session.specs.declared.rows.Way as way
-use Rattle.session.specs.declared.types.Session.{Session}
-use Rattle.session.specs.declared.types.Heading.{Heading}
+use Rattle.session.specs.declared.body.Session.{Session}
+use Rattle.session.specs.declared.heading.Heading.{Heading}
 use Rattle.session.specs.Directions.{Direction, sealing, opening}
 use Rattle.session.specs.Runs.{Run, fresh, finished, last_of}
 use Rattle.session.specs.Promise.{Blocks}

@@ -8,9 +8,9 @@ use Rattle.suite.specs.declared.HeaderDigest as digest
 use Rattle.script.specs.declared.played.Played.{Played}
 use Rattle.script.specs.declared.played.Answer.{Answer}
 use Rattle.script.specs.declared.course.Stretch.{Stretch}
-use Rattle.session.specs.declared.types.Heading.{Heading}
+use Rattle.session.specs.declared.heading.Heading.{Heading}
 use Rattle.session.specs.declared.rows.Way as way
-use Rattle.session.specs.declared.types.Session.{Session}
+use Rattle.session.specs.declared.body.Session.{Session}
 use Rattle.script.specs.Scripts.{taken, Check, all_taken, all_answers, header_check_of, header_answer, headers_taken, header_answers, body_check_of, body_answer, bodies_taken, body_answers}
 use Rattle.script.specs.Playing.{HeaderPlayed, BodyPlayed}
 

@@ -13,9 +13,9 @@ use Rattle.suite.specs.declared.HeaderDigest as digest
 use Rattle.script.specs.declared.played.Played.{Played}
 use Rattle.script.specs.declared.played.Answer.TheVariants.{Header, Body}
 use Rattle.script.specs.declared.course.Stretch.{Stretch}
-use Rattle.session.specs.declared.types.Heading.{Heading}
+use Rattle.session.specs.declared.heading.Heading.{Heading}
 use Rattle.session.specs.declared.rows.Way as way
-use Rattle.session.specs.declared.types.Session.{Session}
+use Rattle.session.specs.declared.body.Session.{Session}
 use Rattle.session.specs.Runs.{Run}
 use Rattle.session.specs.Sessions.{HeadingAt, header_check, SessionAt, body_check, held, given_of, writes}
 use Rattle.session.proofs.ByChecks.{HeaderBy, BodyBy}

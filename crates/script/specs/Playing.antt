@@ -6,9 +6,9 @@ use Rattle.suite.specs.declared.ChainingHash as hash
 use Rattle.suite.specs.declared.HeaderDigest as digest
 use Rattle.script.specs.declared.played.Played.{Played}
 use Rattle.script.specs.declared.course.Stretch.{Stretch}
-use Rattle.session.specs.declared.types.Heading.{Heading}
+use Rattle.session.specs.declared.heading.Heading.{Heading}
 use Rattle.session.specs.declared.rows.Way as way
-use Rattle.session.specs.declared.types.Session.{Session}
+use Rattle.session.specs.declared.body.Session.{Session}
 use Rattle.session.specs.Sessions.{HeadingAt, SessionAt}
 use Rattle.script.specs.Scripts.{run_of, headers_taken, header_answers, bodies_taken, body_answers}
 

@@ -11,9 +11,9 @@ use Rattle.suite.specs.declared.Suite as suite
 use Rattle.suite.specs.declared.Permutation as permutation
 use Rattle.suite.specs.declared.ChainingHash as hash
 use Rattle.suite.specs.declared.HeaderDigest as digest
-use Rattle.session.specs.declared.types.Heading.{Heading}
+use Rattle.session.specs.declared.heading.Heading.{Heading}
 use Rattle.session.specs.declared.rows.Way as way
-use Rattle.session.specs.declared.types.Session.{Session}
+use Rattle.session.specs.declared.body.Session.{Session}
 use Rattle.session.specs.Calls.{forged}
 use Rattle.session.specs.Directions.{Direction, sealing, opening}
 use Rattle.session.specs.Runs.{Run, headed, bodied, finished, ended}

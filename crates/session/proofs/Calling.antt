@@ -10,9 +10,9 @@ use Rattle.suite.specs.declared.Permutation as permutation
 use Rattle.suite.specs.declared.ChainingHash as hash
 use Rattle.suite.specs.declared.HeaderDigest as digest
 use Rattle.poet.specs.Seal.{header_most, body_most}
-use Rattle.session.specs.declared.types.Heading.{Heading}
+use Rattle.session.specs.declared.heading.Heading.{Heading}
 use Rattle.session.specs.declared.rows.Way as way
-use Rattle.session.specs.declared.types.Session.{Session}
+use Rattle.session.specs.declared.body.Session.{Session}
 use Rattle.session.specs.Runs.{Run, headed, bodied}
 use Rattle.session.specs.Sessions.{HeadingAt, SessionAt, header_check, body_check, given_of, held, writes, sealing_check, opening_check}
 use Rattle.session.proofs.ByChecks.{header_by, BodyTaken, body_by, SealFinished, SealedBy, OpenJudged, OpenedBy}

@@ -12,7 +12,7 @@ use Rattle.suite.specs.declared.Permutation as permutation
 use Rattle.suite.specs.declared.ChainingHash as hash
 use Rattle.suite.specs.declared.HeaderDigest as digest
 use Rattle.session.specs.declared.rows.Way as way
-use Rattle.session.specs.declared.types.Session.{Session}
+use Rattle.session.specs.declared.body.Session.{Session}
 use Rattle.session.specs.Runs.{fresh, headed}
 use Rattle.session.specs.Sessions.{held, writes, given_of}
 use Rattle.session.proofs.ByChecks.{BodyTaken, SealFinished, OpenJudged}

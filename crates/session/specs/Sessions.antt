@@ -12,9 +12,9 @@ use Rattle.suite.specs.declared.Suite as suite
 use Rattle.suite.specs.declared.Permutation as permutation
 use Rattle.suite.specs.declared.ChainingHash as hash
 use Rattle.suite.specs.declared.HeaderDigest as digest
-use Rattle.session.specs.declared.types.Heading.{Heading}
+use Rattle.session.specs.declared.heading.Heading.{Heading}
 use Rattle.session.specs.declared.rows.Way as way
-use Rattle.session.specs.declared.types.Session.{Session}
+use Rattle.session.specs.declared.body.Session.{Session}
 use Rattle.session.specs.Engines.{EngineAt}
 use Rattle.session.specs.Calls.{tag_check}
 use Rattle.session.specs.Directions.{Direction, picks, turns}

@@ -3,9 +3,10 @@ ghost use Rattle.std.specs.Prelude.{◌≤◌, length};
 ghost use Rattle.poet.specs.Seal.{body_most, header_most};
 ghost use Rattle.session.specs.Straight.{BegunBy, OpenRun, SealRun};
 
+use crate::body::Session;
+use crate::heading::Heading;
 use crate::keys::KeyPlace;
 use crate::rows::{Open, Seal, Way};
-use crate::types::{Heading, Session};
 use fault::kinds::{Placed, SessionFault};
 use suite::Suite;
 

@@ -1,7 +1,7 @@
 use Rattle.std.proofs.Common.{length, refl, ap, ◌∙◌, arith}
 use Rattle.poet.specs.Rows.{length_mask}
 use Rattle.session.proofs.Endings.{tested}
-use Rattle.session.proofs.bodies.Opening+S.verdict.Goals as goal
+use Rattle.session.proofs.body.Opening+S.verdict.Goals as goal
 
 pub returns : goal.returns
 returns g c =

@@ -1,21 +1,37 @@
-// A heading: a session that takes its header.
-ghost use Rattle.std.specs.Prelude.{◌≡◌, ℕ, List, length, OnErr, OnOk};
-ghost use Rattle.fault.specs.Refusals.{RefusedBy, session_faults};
-ghost use Rattle.session.specs.Runs.{Run, fresh, headed};
-ghost use Rattle.session.specs.Sessions.{HeadingAt, SessionAt, header_check};
+//! A heading: a session that takes its header.
 
+// The `impl` has the imports of its own contracts: those at the top are for the struct's ghost
+// field, and may not lead to definitions that name the struct.
+ghost use Rattle.std.specs.Prelude.{◌≤◌};
+ghost use Rattle.poet.specs.Seal.{header_most};
+
+use crate::body::{Opening, Sealing, Session};
 use crate::checks::HEADER_MOST;
 use crate::engine::Engine;
 use crate::keys::KeyPlace;
 use crate::rows::Way;
-use crate::types::{Heading, Opening, Sealing, Session};
 use block::xor;
 use buffer::Buffer;
 use fault::kinds::{Placed, SessionFault};
 use std::marker::PhantomData;
 use suite::{HeaderDigest, Keyed, Suite};
 
+/// A session that takes its header, in stretches of any size: 0 to 65,536 bytes in all.
+#[derive(Drop)]
+pub struct Heading<S: Suite> {
+    pub(crate) permutation: S::Permutation,
+    pub(crate) hash: S::ChainingHash,
+    pub(crate) digest: S::HeaderDigest,
+    pub(crate) count: usize,
+    ghost within: { count ≤ header_most },
+}
+
 impl<S: Suite> Heading<S> {
+    ghost use Rattle.std.specs.Prelude.{◌≡◌, ℕ, List, length, OnErr, OnOk};
+    ghost use Rattle.fault.specs.Refusals.{RefusedBy, session_faults};
+    ghost use Rattle.session.specs.Runs.{Run, fresh, headed};
+    ghost use Rattle.session.specs.Sessions.{HeadingAt, SessionAt, header_check};
+
     /// A new session under the key that is in `place`, or under sixteen zeros if none was put in.
     pub fn new(place: &KeyPlace) -> Heading<S>
         ensures { HeadingAt (fresh place.now.bytes) result }

@@ -1,7 +1,7 @@
 use Rattle.std.proofs.Common.{◌≡◌, ◌+◌, false, ltb, length, sym, ap, ◌∙◌, append_assoc, arith, length-append, rules, le-ltb}
 use Rattle.block.proofs.Xors.{bytes_append, bytes_from}
 use Rattle.poet.specs.Seal.{header_most}
-use Rattle.session.proofs.types.Heading.header.Goals as goal
+use Rattle.session.proofs.heading.Heading.header.Goals as goal
 
 pub returns-clause-refused : goal.returns-clause-refused
 returns-clause-refused g c =

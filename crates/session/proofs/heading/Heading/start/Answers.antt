@@ -1,6 +1,6 @@
 use Rattle.std.proofs.Common.{◌≡◌, ap, ◌∙◌, append-nil}
 use Rattle.session.proofs.Starts.{started}
-use Rattle.session.proofs.types.Heading.start.Goals as goal
+use Rattle.session.proofs.heading.Heading.start.Goals as goal
 
 pub returns : goal.returns
 returns g c =

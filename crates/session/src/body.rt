@@ -1,25 +1,48 @@
-// A session whose body has started, one way or the other: its body call, and the finish of each
-// way.
-ghost use Rattle.std.specs.Prelude.{◌≡◌, ◌+◌, ◌-◌, ◌≤◌, ◌↔◌, ℕ, List, ◌++◌, length, take, drop, replicate, IfErr, IfOk, IsOk, OnErr};
-ghost use Rattle.fault.specs.declared.kinds.SessionFault.{SessionFault};
-ghost use Rattle.fault.specs.Refusals.{IsRefusal, Refusal, RefusedBy, Refuses, session_faults};
-ghost use Rattle.poet.specs.Seal.{Seals};
-ghost use Rattle.session.specs.Calls.{forged};
-ghost use Rattle.session.specs.Directions.{opening, sealing};
-ghost use Rattle.session.specs.Promise.{AgreesWith, Blocks};
-ghost use Rattle.session.specs.Runs.{Run, bodied, ended};
-ghost use Rattle.session.specs.Sessions.{SessionAt, body_check, given_of, held, opening_check, rows_of, sealing_check};
-ghost use Rattle.session.specs.Steps.{Tested};
+//! A session whose body has started, one way or the other: its body call, and the finish of each
+//! way.
+
+// Each `impl` has the imports of its own contracts: those at the top are for the struct's ghost
+// fields, and may not lead to definitions that name the struct.
+ghost use Rattle.std.specs.Prelude.{◌≡◌, ◌+◌, ◌-◌, ◌*◌, ◌/◌, ◌≤◌, length};
+ghost use Rattle.poet.specs.Seal.{body_most};
 
 use crate::blocks::same;
 use crate::checks::{BODY_MOST, tag_bytes};
-use crate::rows::{Open, Seal, Way};
-use crate::types::{Opening, Sealing, Session};
+use crate::engine::Engine;
+use crate::rows::{Lanes, Open, Seal, Way};
 use block::complete;
+use buffer::Buffer;
 use fault::kinds::{Placed, SessionFault};
+use std::marker::PhantomData;
 use suite::Suite;
 
+/// A session whose body has started: the suite's parts, where the rows stand, the bytes that no row
+/// has taken yet, and the number of body bytes taken, 1,048,576 at most.
+#[derive(Drop)]
+pub struct Session<S: Suite, W: Way> {
+    pub(crate) engine: Engine<S>,
+    pub(crate) lanes: Lanes,
+    pub(crate) held: Buffer<16>,
+    pub(crate) total: usize,
+    pub(crate) way: PhantomData<W>,
+    ghost within: { total ≤ body_most },
+    ghost split: { length held + 16 * ((total - 1) / 16) ≡ total },
+}
+
+/// A sealing takes the message and hands out the ciphertext.
+pub type Sealing<S> = Session<S, Seal>;
+
+/// An opening takes the ciphertext and hands out the message, which is provisional until the finish
+/// accepts it.
+pub type Opening<S> = Session<S, Open>;
+
 impl<S: Suite, W: Way> Session<S, W> {
+    ghost use Rattle.std.specs.Prelude.{◌≡◌, ◌+◌, ◌≤◌, length, take, drop, IfOk, OnErr};
+    ghost use Rattle.fault.specs.Refusals.{RefusedBy, session_faults};
+    ghost use Rattle.session.specs.Promise.{AgreesWith, Blocks};
+    ghost use Rattle.session.specs.Runs.{Run, bodied};
+    ghost use Rattle.session.specs.Sessions.{SessionAt, body_check, given_of, held};
+
     /// Takes a stretch of the message, or of an opening's ciphertext, and writes to the front of
     /// `out` every whole block that at least one more byte follows. Answers how many bytes it
     /// wrote, and how many it holds back, 16 at most.
@@ -76,6 +99,15 @@ impl<S: Suite, W: Way> Session<S, W> {
 }
 
 impl<S: Suite> Sealing<S> {
+    ghost use Rattle.std.specs.Prelude.{◌≡◌, ◌-◌, ◌≤◌, ◌↔◌, ℕ, List, ◌++◌, take, drop, replicate};
+    ghost use Rattle.std.specs.Prelude.{IfOk, IsOk, OnErr};
+    ghost use Rattle.fault.specs.Refusals.{RefusedBy, session_faults};
+    ghost use Rattle.poet.specs.Seal.{Seals};
+    ghost use Rattle.session.specs.Directions.{sealing};
+    ghost use Rattle.session.specs.Promise.{AgreesWith, Blocks};
+    ghost use Rattle.session.specs.Runs.{Run, ended};
+    ghost use Rattle.session.specs.Sessions.{SessionAt, held, sealing_check};
+
     /// Ends the sealing: the last bytes of the ciphertext go to `last`, with zeros behind them, and
     /// the tag to `tag`. Answers how many bytes the last ones are, 1 to 16.
     ///
@@ -122,6 +154,18 @@ impl<S: Suite> Sealing<S> {
 }
 
 impl<S: Suite> Opening<S> {
+    ghost use Rattle.std.specs.Prelude.{◌≡◌, ◌-◌, ◌≤◌, ◌↔◌, ℕ, List, ◌++◌, length, take, drop};
+    ghost use Rattle.std.specs.Prelude.{replicate, IfErr, IfOk, IsOk, OnErr};
+    ghost use Rattle.fault.specs.declared.kinds.SessionFault.{SessionFault};
+    ghost use Rattle.fault.specs.Refusals.{IsRefusal, Refusal, Refuses, session_faults};
+    ghost use Rattle.poet.specs.Seal.{Seals};
+    ghost use Rattle.session.specs.Calls.{forged};
+    ghost use Rattle.session.specs.Directions.{opening};
+    ghost use Rattle.session.specs.Promise.{AgreesWith, Blocks};
+    ghost use Rattle.session.specs.Runs.{Run, ended};
+    ghost use Rattle.session.specs.Sessions.{SessionAt, held, opening_check, rows_of};
+    ghost use Rattle.session.specs.Steps.{Tested};
+
     // The last row under a tag: the block that it gives, if the opening passes its tests. Both
     // tests are made, and each to the end, so that the time tells nothing of where a forgery fails.
     fn verdict(&self, tag: &[u8; 16]) -> Option<[u8; 16]>

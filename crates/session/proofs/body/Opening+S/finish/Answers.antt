@@ -6,7 +6,7 @@ use Rattle.session.specs.Runs.{Run}
 use Rattle.session.specs.Sessions.{SessionAt, opening_check}
 use Rattle.session.proofs.ByChecks.{OpenedBy, open_end}
 use Rattle.session.proofs.Finishing.{opening_accepts, opening_refuses, none_empty, tag_refused}
-use Rattle.session.proofs.bodies.Opening+S.finish.Goals as goal
+use Rattle.session.proofs.body.Opening+S.finish.Goals as goal
 
 pub returns-then-self-eq0 : goal.returns-then-self-eq0
 returns-then-self-eq0 g c =

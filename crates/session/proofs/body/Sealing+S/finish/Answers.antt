@@ -7,7 +7,7 @@ use Rattle.session.proofs.ByChecks.{SealedBy, seal_end}
 use Rattle.session.proofs.Endings.{sealed}
 use Rattle.session.proofs.Finishing.{limits, seal_finished}
 use Rattle.session.proofs.Nothing.{seal_end_passes}
-use Rattle.session.proofs.bodies.Sealing+S.finish.Goals as goal
+use Rattle.session.proofs.body.Sealing+S.finish.Goals as goal
 
 pub returns-then-self-eq0 : goal.returns-then-self-eq0
 returns-then-self-eq0 g c =

@@ -7,7 +7,7 @@ use Rattle.session.specs.Runs.{Run, bodied}
 use Rattle.session.specs.Sessions.{Taken, SessionAt, held, writes}
 use Rattle.session.proofs.Promises.{blocks, agrees}
 use Rattle.session.proofs.Stretches.{out_length, stretched, left}
-use Rattle.session.proofs.types.Session.body.Goals as goal
+use Rattle.session.proofs.body.Session.body.Goals as goal
 
 pub returns-then-out-written-clause-refused : goal.returns-then-out-written-clause-refused
 returns-then-out-written-clause-refused g c =

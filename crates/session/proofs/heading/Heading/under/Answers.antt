@@ -1,6 +1,6 @@
 use Rattle.std.proofs.Common.{refl, ap, arith, rules}
 use Rattle.block.proofs.Xors.{bytes_nil, bytes_from}
-use Rattle.session.proofs.types.Heading.under.Goals as goal
+use Rattle.session.proofs.heading.Heading.under.Goals as goal
 
 pub returns : goal.returns
 returns g c = record {
