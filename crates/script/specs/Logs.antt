@@ -6,7 +6,7 @@ use Rattle.script.specs.declared.played.Played.{Played}
 use Rattle.session.specs.Runs.{last_of}
 use Rattle.script.specs.declared.played.Answer.TheVariants.{Header, Body, Finish}
 
--- the bytes that a call brought, if it was heeded
+-- the bytes that a call brought, if it was accepted
 abbrev pub kept : {X : Type 0} → Result X (Placed SessionFault) → List ℕ → List ℕ
 kept (Ok x) P = P
 kept (Err e) P = []

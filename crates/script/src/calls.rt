@@ -14,7 +14,8 @@ pub(crate) fn header_call<S: Suite>(
     stretch: Stretch<'_>,
     log: &mut Played,
 ) -> Result<(), AllocError>
-    ensures { OnOk result (HeaderPlayed (stretch.entry ∷ []) log.old log.new heading.old heading.new) }
+    ensures { OnOk result
+        (HeaderPlayed (stretch.entry ∷ []) log.old log.new heading.old heading.new) }
 {
     let answer = heading.header(stretch.bytes);
     log.keep_header(stretch.bytes, answer)
@@ -41,7 +42,8 @@ fn body_call<S: Suite, W: Way>(
     stretch: Stretch<'_>,
     log: &mut Played,
 ) -> Result<(), AllocError>
-    ensures { OnOk result (BodyPlayed (stretch.entry ∷ []) log.old log.new session.old session.new) }
+    ensures { OnOk result
+        (BodyPlayed (stretch.entry ∷ []) log.old log.new session.old session.new) }
 {
     let mut buffer = vec![in heap; 0; stretch.room]?;
     let answer = session.body(stretch.bytes, &mut buffer);

@@ -5,7 +5,7 @@ ghost use Rattle.script.specs.Logs.{BodyKept, FinishKept, HeaderKept};
 use fault::kinds::{Placed, SessionFault};
 use std::alloc::{AllocError, Global};
 
-/// What one call answered.
+/// What one call answered: of each kind of call, exactly what the session's call of that name does.
 #[derive(Debug, PartialEq, Eq, Clone, Copy)]
 pub enum Answer {
     Header(Result<(), Placed<SessionFault>>),

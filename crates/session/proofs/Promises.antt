@@ -42,7 +42,7 @@ tied_by : (f : Functions) (L : Lawful f) (w : Direction) (R : Run) → Bytes R.h
 tied_by f L sealing R hb bb ob k l m e = seal_ties f L R.header hb R.body R.out k bb l e
 tied_by f L opening R hb bb ob k l m e = open_ties f L R.header hb R.body R.out k bb ob l m e
 
--- a session that stands at a run
+-- a session after a run
 pub blocks : (f : Functions) → Lawful f → (w : Direction) (R : Run) → Taken R → R.out ≡ (rows_of w f R).out → Blocks w f R
 blocks f L w R t e =
     let W = both_ways f L w in

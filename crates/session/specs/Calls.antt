@@ -1,13 +1,17 @@
 -- What the calls for whole buffers do: which refusal they give, or what they write.
-use Rattle.std.specs.Prelude.{◌≡◌, ℕ, ◌≤◌, ◌↔◌, if◌then◌else◌, List, ◌++◌, length, take, drop, replicate, Some, None, IsOk, IfOk, IfErr, OnErr, Option, Result, ◌==◌, nat_lt}
+use Rattle.std.specs.Prelude.{◌≡◌, ℕ, ◌≤◌, ◌↔◌, List, ◌++◌, length, take, drop, replicate}
+use Rattle.std.specs.Prelude.{if◌then◌else◌, ◌==◌, nat_lt}
+use Rattle.std.specs.Prelude.{Some, None, IsOk, IfOk, IfErr, OnErr, Option, Result}
 use Rattle.std.specs.Option.{option_or, option_map}
 use Rattle.fault.specs.declared.kinds.Layer.TheVariants.{Key as KeyLayer, Session as SessionLayer}
 use Rattle.fault.specs.declared.kinds.KeyFault.{KeyFault}
 use Rattle.fault.specs.declared.kinds.KeyFault.TheVariants.{Length}
 use Rattle.fault.specs.declared.kinds.SessionFault.{SessionFault}
-use Rattle.fault.specs.declared.kinds.SessionFault.TheVariants.{Key, Header, Body, Room, Empty, Tag, Forged}
+use Rattle.fault.specs.declared.kinds.SessionFault.TheVariants.{Key, Header, Body, Room, Empty}
+use Rattle.fault.specs.declared.kinds.SessionFault.TheVariants.{Tag, Forged}
 use Rattle.fault.specs.declared.kinds.Placed.{Placed}
-use Rattle.fault.specs.Refusals.{Refusal, refusal, inside, IsRefusal, Refuses, RefusedBy, session_faults}
+use Rattle.fault.specs.Refusals.{Refusal, refusal, inside, IsRefusal, Refuses, RefusedBy}
+use Rattle.fault.specs.Refusals.{session_faults}
 use Rattle.poet.specs.Functions.{Functions}
 use Rattle.poet.specs.Seal.{header_most, body_most, Seals}
 
@@ -57,7 +61,7 @@ pub record SealCall (under : List ℕ → Functions) (key H M o t o' t' : List �
   -- with a key and room enough, it seals exactly what has a seal
   pub accepts : length key ≡ 16 → length M ≤ length o
       → IsOk r ↔ ((C : List ℕ) × (T : List ℕ) × Seals (under key) H M C T)
-  -- then that seal stands in the first bytes of o', and in t'
+  -- then that seal is in the first bytes of o', and in t'
   pub seals : IfOk r (λ n. (n ≡ length M) × Seals (under key) H M (take n o') t')
   pub rest : drop (length M) o' ≡ drop (length M) o
   pub room : IfOk r (λ n. n ≤ length o)
@@ -71,7 +75,7 @@ pub record OpenCall (under : List ℕ → Functions) (key H C T o o' : List ℕ)
   -- with a key and room enough, it accepts exactly what some message seals to
   pub accepts : length key ≡ 16 → length C ≤ length o
       → IsOk r ↔ ((M : List ℕ) × Seals (under key) H M C T)
-  -- then that message stands in the first bytes of o', and it is the only one
+  -- then that message is in the first bytes of o', and it is the only one
   pub message : IfOk r (λ n. (n ≡ length C) × Seals (under key) H (take n o') C T)
   pub only : IfOk r (λ n. (M : List ℕ) → Seals (under key) H M C T → M ≡ take n o')
   -- where no check fails it refuses a forgery, and leaves as many zeros as C has bytes

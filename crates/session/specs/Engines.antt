@@ -5,8 +5,9 @@ use Rattle.suite.specs.declared.Permutation as permutation
 use Rattle.suite.specs.declared.ChainingHash as hash
 use Rattle.session.specs.declared.engine.Engine.{Engine}
 
--- The engine s holds the functions f, and has taken the header H. Kept: p and h are written out,
--- since a struct with no ghost field has a type that does not name them.
+-- The engine s holds the functions f, and has taken the header H. The members p and h of its
+-- permutation and its hash are given beside it: its type does not name them, as it has no ghost
+-- field.
 pub record EngineAt {A B C D : Type 0} (p : permutation.Ghosts B) (h : hash.Ghosts C)
     (f : Functions) (H : List ℕ) (s : Engine A B C D) : Type 0 where
   pub enc_is : p.enc s.permutation ≡ f.enc

@@ -1,5 +1,6 @@
--- Where a session stands after a run, and what each of its calls does.
-use Rattle.std.specs.Prelude.{◌≡◌, ℕ, ◌+◌, ◌-◌, ◌*◌, ◌/◌, ◌≤◌, if◌then◌else◌, List, [], ◌++◌, length, drop, Some, None, Option, ◌==◌, nat_lt}
+-- What a session holds after a run, and what each of its calls does.
+use Rattle.std.specs.Prelude.{◌≡◌, ℕ, ◌+◌, ◌-◌, ◌*◌, ◌/◌, ◌≤◌, List, [], ◌++◌, length, drop}
+use Rattle.std.specs.Prelude.{if◌then◌else◌, ◌==◌, nat_lt, Some, None, Option}
 use Rattle.fault.specs.declared.kinds.Layer.TheVariants.{Session as SessionLayer}
 use Rattle.fault.specs.declared.kinds.SessionFault.{SessionFault}
 use Rattle.fault.specs.declared.kinds.SessionFault.TheVariants.{Header, Body, Room, Empty}
@@ -27,7 +28,7 @@ pub record Taken (R : Run) : Type 0 where
   pub header_most : length R.header ≤ header_most
   pub body_bytes : Bytes R.body
 
--- the heading s stands at the run R
+-- s is a heading after the run R
 pub record HeadingAt {A B C D : Type 0} {u : suite.Ghosts A B C D} {p : permutation.Ghosts B}
     {h : hash.Ghosts C} {d : digest.Ghosts D} (R : Run) (s : Heading A B C D u p h d) : Type 0 where
   pub taken : Taken R
@@ -44,7 +45,7 @@ abbrev pub rows_of : (w : Direction) (f : Functions) → Run → State
 rows_of w f R = rows (picks w f.enc f.dec) f.chain (whole R.body)
     (turns w (start f R.header)) R.body
 
--- the session s stands at the run R
+-- s is a session after the run R
 pub record SessionAt {A W B C D : Type 0} {u : suite.Ghosts A B C D} {p : permutation.Ghosts B}
     {h : hash.Ghosts C} {d : digest.Ghosts D} {w : way.Ghosts W} (R : Run)
     (s : Session A W B C D u p h d w) : Type 0 where

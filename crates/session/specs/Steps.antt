@@ -23,7 +23,7 @@ pub record Ended (e c : List ℕ → List ℕ) (S : List ℕ) (s : Lanes) (b : L
   pub y_is : s'.giving ≡ (last e c S (lanes s.taking s.giving) b).y
   pub gives_is : g ≡ (last e c S (lanes s.taking s.giving) b).out
 
--- n rows over the bytes a; what they gave stands at the front of o', which was o
+-- n rows over the bytes a; what they gave is at the front of o', which was o
 pub record Ran (e c : List ℕ → List ℕ) (s : Lanes) (a o : List ℕ) (n : ℕ) (s' : Lanes)
     (o' : List ℕ) : Type 0 where
   pub x_is : s'.taking ≡ (rows e c n (lanes s.taking s.giving) a).x

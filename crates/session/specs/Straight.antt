@@ -15,12 +15,12 @@ use Rattle.session.specs.Calls.{forged}
 use Rattle.session.specs.Runs.{Run}
 use Rattle.session.specs.Sessions.{SessionAt, writes}
 
--- the seal of M stands in the first bytes of o', which was o, and in t'
+-- the seal of M is in the first bytes of o', which was o, and in t'
 pub record Sealed (f : Functions) (H M o o' t' : List ℕ) : Type 0 where
   pub seals : Seals f H M (take (length M) o') t'
   pub rest : drop (length M) o' ≡ drop (length M) o
 
--- the message that seals to C and T stands in the first bytes of o', and it is the only one
+-- the message that seals to C and T is in the first bytes of o', and it is the only one
 pub record Opened (f : Functions) (H C T o o' : List ℕ) : Type 0 where
   pub seals : Seals f H (take (length C) o') C T
   pub only : (M : List ℕ) → Seals f H M C T → M ≡ take (length C) o'
@@ -30,7 +30,7 @@ pub record Opened (f : Functions) (H C T o o' : List ℕ) : Type 0 where
 abbrev pub run : (key H a o' : List ℕ) → Run
 run key H a o' = record { key = key; header = H; body = a; out = take (writes (length a)) o' }
 
--- the session s stands at that run: its body call wrote those bytes over the front of o, and its
+-- s is the session after that run: its body call wrote those bytes over the front of o, and its
 -- finish is still to come
 pub record Begun {A W B C D : Type 0} {u : suite.Ghosts A B C D} {p : permutation.Ghosts B}
     {h : hash.Ghosts C} {d : digest.Ghosts D} {w : way.Ghosts W} (key H a o o' : List ℕ)

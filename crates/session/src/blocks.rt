@@ -1,4 +1,4 @@
-// The comparison of blocks.
+//! The comparison of blocks.
 ghost use Rattle.std.specs.Prelude.{◌≡◌, true, false, ◌≢◌, fold, bit_or, bit_xor};
 ghost use Rattle.std.specs.List.{zip};
 

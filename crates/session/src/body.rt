@@ -16,8 +16,8 @@ use fault::kinds::{Placed, SessionFault};
 use std::marker::PhantomData;
 use suite::Suite;
 
-/// A session whose body has started: the suite's parts, where the rows stand, the bytes that no row
-/// has taken yet, and the number of body bytes taken, 1,048,576 at most.
+/// A session whose body has started: the suite's parts, the last blocks of the rows, the bytes that
+/// no row has taken yet, and the number of body bytes taken, 1,048,576 at most.
 #[derive(Drop)]
 pub struct Session<S: Suite, W: Way> {
     pub(crate) engine: Engine<S>,

@@ -1,4 +1,4 @@
-// What a call for whole buffers tests before it takes anything.
+//! What a call for whole buffers tests before it takes anything.
 ghost use Rattle.std.specs.Prelude.{◌≡◌, IfOk, None};
 ghost use Rattle.fault.specs.Refusals.{RefusedBy, session_faults};
 ghost use Rattle.session.specs.Calls.{body_checks, tag_check};

@@ -1,5 +1,5 @@
-// A suite's parts under a key, once the header is taken, and the rows over them.
-//
+//! A suite's parts under a key, once the header is taken, and the rows over them.
+
 // The contracts name the members of the suite: the type of a struct with no ghost field does not.
 ghost use Rattle.std.specs.Prelude.{◌≡◌, ℕ, ◌+◌, ◌*◌, ◌≤◌, List, ◌++◌, length, take, drop};
 ghost use Rattle.poet.specs.Functions.{Functions};
@@ -81,7 +81,8 @@ impl<S: Suite> Engine<S> {
         requires room { 16 * n ≤ length out.old }
         ensures ran { (f : Functions) (H : List ℕ)
             → EngineAt S.Permutation.Permutation S.ChainingHash.ChainingHash f H self.now
-            → Ran (picks W.Way.way f.enc f.dec) f.chain lanes (held.old ++ input.now) out.old n result out.new }
+            → Ran (picks W.Way.way f.enc f.dec) f.chain
+            lanes (held.old ++ input.now) out.old n result out.new }
         ensures left { held.new ≡ take 16 (drop (16 * n) (held.old ++ input.now)) }
     {
         let mut lanes = lanes;
@@ -109,7 +110,8 @@ impl<S: Suite> Engine<S> {
     pub(crate) fn mask(&self, len: usize) -> [u8; 16]
         requires { len ≤ body_most }
         ensures { (key H : List ℕ)
-            → EngineAt S.Permutation.Permutation S.ChainingHash.ChainingHash (S.Suite.under key) H self.now
+            → EngineAt S.Permutation.Permutation S.ChainingHash.ChainingHash
+            (S.Suite.under key) H self.now
             → result ≡ length_mask (S.Suite.under key) len }
     {
         // A cast, since there is no `From` of a `usize`.

@@ -9,7 +9,7 @@ use crate::body::{Opening, Sealing, Session};
 use crate::checks::HEADER_MOST;
 use crate::engine::Engine;
 use crate::keys::KeyPlace;
-use crate::rows::Way;
+use crate::rows::{Open, Seal, Way};
 use block::xor;
 use buffer::Buffer;
 use fault::kinds::{Placed, SessionFault};
@@ -79,14 +79,14 @@ impl<S: Suite> Heading<S> {
     pub fn seal(self) -> Sealing<S>
         ensures { (R : Run) → HeadingAt R self → SessionAt R result }
     {
-        self.start()
+        self.start::<Seal>()
     }
 
     /// Starts the body of an opening; the header ends here.
     pub fn open(self) -> Opening<S>
         ensures { (R : Run) → HeadingAt R self → SessionAt R result }
     {
-        self.start()
+        self.start::<Open>()
     }
 
     pub(crate) fn start<W: Way>(self) -> Session<S, W>

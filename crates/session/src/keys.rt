@@ -1,4 +1,4 @@
-// The place of the caller's that a key is put into.
+//! The place of the caller's that a key is put into.
 ghost use Rattle.std.specs.Prelude.{◌≡◌, replicate, OnErr, OnOk};
 ghost use Rattle.fault.specs.Refusals.{RefusedBy, key_faults};
 ghost use Rattle.session.specs.Calls.{key_check};

@@ -1,7 +1,7 @@
 //! Sealing and opening under POET v2.0, generic over the suite and with no heap.
 //!
-//! A session goes from a key place (`keys`) to a heading (`heading`), and from there to a sealing or
-//! an opening (`body`). `whole` has the calls for whole buffers, which run one session from
+//! A session goes from a key place (`keys`) to a heading (`heading`), and from there to a sealing
+//! or an opening (`body`). `whole` has the calls for whole buffers, which run one session from
 //! beginning to end (`straight`). Below them are a suite's parts once the header is taken
 //! (`engine`), the two ways through the rows (`rows`), the comparison of blocks (`blocks`) and the
 //! checks (`checks`).

@@ -1,4 +1,4 @@
-// One session from beginning to end over whole buffers, whose lengths are checked before.
+//! One session from beginning to end over whole buffers, whose lengths are checked before.
 ghost use Rattle.std.specs.Prelude.{◌≤◌, length};
 ghost use Rattle.poet.specs.Seal.{body_most, header_most};
 ghost use Rattle.session.specs.Straight.{BegunBy, OpenRun, SealRun};

@@ -1,7 +1,7 @@
-// Sealing and opening of whole buffers in one call. Each makes its own checks, and a refusal leaves
-// every buffer as it was, but for a forged message, which leaves zeros where the message would have
-// stood.
-ghost use Rattle.std.specs.Prelude.{◌≡◌, ◌≤◌, ◌↔◌, ℕ, List, ◌++◌, length, take, drop, replicate, IfErr, IfOk, IsOk, OnErr};
+//! Sealing and opening of whole buffers in one call. Each makes its own checks, and a refusal
+//! leaves every buffer as it was, but for a forgery, which leaves zeros in the message's place.
+ghost use Rattle.std.specs.Prelude.{◌≡◌, ◌≤◌, ◌↔◌, ℕ, List, ◌++◌, length, take, drop, replicate};
+ghost use Rattle.std.specs.Prelude.{IfErr, IfOk, IsOk, OnErr};
 ghost use Rattle.fault.specs.declared.kinds.SessionFault.{SessionFault};
 ghost use Rattle.fault.specs.Refusals.{IsRefusal, Refusal, RefusedBy, Refuses, session_faults};
 ghost use Rattle.poet.specs.Seal.{Seals};
@@ -51,8 +51,7 @@ pub fn seal<S: Suite>(
 /// message goes to the front of `out`. Answers how many bytes it wrote.
 ///
 /// Refuses as `seal` does, and then a tag that has not sixteen bytes (8), at 0, altering nothing;
-/// and a forgery (9), at the ciphertext's length: zeros stand then where the message would have
-/// stood.
+/// and a forgery (9), at the ciphertext's length: then there are zeros in the message's place.
 pub fn open<S: Suite>(
     key: &[u8],
     header: &[u8],
