@@ -1,5 +1,5 @@
-//! Reading into a buffer and writing of bytes, for the programs. The contracts speak of failures too, which those of `read_exact` and
-//! `write_all` do not.
+//! Reading into a buffer and writing of bytes, for the programs. The contracts speak of failures
+//! too, which those of `read_exact` and `write_all` do not.
 #![tactic(auto)]
 
 ghost use Rattle.std.specs.Prelude.{◌≡◌, ℕ, ◌+◌, ◌<◌, ◌≤◌, length, take, drop, IfOk, OnErr};
@@ -9,16 +9,19 @@ ghost use Rattle.streams.specs.Streams.{ReadsUpTo, Wrote};
 use std::io;
 use std::io::{Error, ErrorKind, Read, Write};
 
-/// Reads until the buffer is full or the input ends, and answers how many bytes of the buffer are filled, from its first on.
+/// Reads until the buffer is full or the input ends, and answers how many bytes of the buffer are
+/// filled, from its first on.
 ///
 /// # Errors
 ///
-/// What the reader fails with. The bytes that were read before that stand in the buffer.
+/// What the reader fails with. The bytes read before that are in the buffer, from its first on.
 #[tactic(auto, using(crate::proofs::Steps::more_read))]
 pub fn fill<R: Read>(reader: &mut R, buffer: &mut [u8]) -> io::Result<usize>
-    ensures filled { IfOk result (λ n. ReadsUpTo (length buffer.old) (R.remaining reader.old) (R.remaining reader.new) (take n buffer.new)) }
+    ensures filled { IfOk result (λ n. ReadsUpTo (length buffer.old)
+        (R.remaining reader.old) (R.remaining reader.new) (take n buffer.new)) }
     ensures within { IfOk result (λ n. n ≤ length buffer.old) }
-    ensures failed { OnErr result ((n : ℕ) × Consumes (R.remaining reader.old) (R.remaining reader.new) (take n buffer.new)) }
+    ensures failed { OnErr result ((n : ℕ)
+        × Consumes (R.remaining reader.old) (R.remaining reader.new) (take n buffer.new)) }
 {
     let mut filled = 0;
     for _ in 0..u64::MAX {
@@ -40,7 +43,8 @@ fn read_behind<R: Read>(reader: &mut R, buffer: &mut [u8], at: usize) -> io::Res
     ensures front { take at buffer.new ≡ take at buffer.old }
     ensures long { length buffer.new ≡ length buffer.old }
     ensures within { IfOk result (λ n. at + n ≤ length buffer.old) }
-    ensures taken { IfOk result (λ n. Consumes (R.remaining reader.old) (R.remaining reader.new) (take n (drop at buffer.new))) }
+    ensures taken { IfOk result (λ n. Consumes
+        (R.remaining reader.old) (R.remaining reader.new) (take n (drop at buffer.new))) }
     ensures end { IfOk result (λ n. n ≡ 0 → IsAtEnd (R.remaining reader.new)) }
     ensures failed { OnErr result (Keeps (R.remaining reader.old) (R.remaining reader.new)) }
 {
@@ -51,8 +55,10 @@ fn read_behind<R: Read>(reader: &mut R, buffer: &mut [u8], at: usize) -> io::Res
 fn read_once<R: Read>(reader: &mut R, buffer: &mut [u8]) -> io::Result<usize>
     ensures within { IfOk result (λ n. n ≤ length buffer.new) }
     ensures long { length buffer.new ≡ length buffer.old }
-    ensures taken { IfOk result (λ n. Consumes (R.remaining reader.old) (R.remaining reader.new) (take n buffer.new)) }
-    ensures end { IfOk result (λ n. n ≡ 0 → 0 < length buffer.old → IsAtEnd (R.remaining reader.new)) }
+    ensures taken { IfOk result (λ n. Consumes
+        (R.remaining reader.old) (R.remaining reader.new) (take n buffer.new)) }
+    ensures end { IfOk result (λ n. n ≡ 0
+        → 0 < length buffer.old → IsAtEnd (R.remaining reader.new)) }
     ensures failed { OnErr result (Keeps (R.remaining reader.old) (R.remaining reader.new)) }
 {
     for _ in 0..u64::MAX {
@@ -72,7 +78,7 @@ fn read_once<R: Read>(reader: &mut R, buffer: &mut [u8]) -> io::Result<usize>
 ///
 /// # Errors
 ///
-/// What the writer fails with. Some first bytes are written then, maybe none.
+/// What the writer fails with. Some first bytes are written then, or none.
 pub fn put<W: Write>(writer: &mut W, bytes: &[u8]) -> io::Result<()>
     ensures { Wrote (W.contents writer.old) (W.contents writer.new) bytes.now result }
 {
@@ -93,7 +99,8 @@ pub fn put<W: Write>(writer: &mut W, bytes: &[u8]) -> io::Result<()>
 // One write, tried again where it is interrupted.
 fn write_once<W: Write>(writer: &mut W, bytes: &[u8]) -> io::Result<usize>
     ensures within { IfOk result (λ n. n ≤ length bytes.now) }
-    ensures written { IfOk result (λ n. Appends (W.contents writer.old) (W.contents writer.new) (take n bytes.now)) }
+    ensures written { IfOk result (λ n. Appends
+        (W.contents writer.old) (W.contents writer.new) (take n bytes.now)) }
     ensures failed { OnErr result (Keeps (W.contents writer.old) (W.contents writer.new)) }
 {
     for _ in 0..u64::MAX {

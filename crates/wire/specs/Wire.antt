@@ -1,5 +1,6 @@
 -- A delivery as bytes: its parts, their limits and their order, and what parsing answers.
-use Rattle.std.specs.Prelude.{◌≡◌, ℕ, ◌/◌, ◌%◌, ◌≤◌, min, List, [], ◌∷◌, ◌++◌, length, Some, None, Ok, Err, Option, Result, ◌≢◌}
+use Rattle.std.specs.Prelude.{◌≡◌, ◌≢◌, ℕ, ◌/◌, ◌%◌, ◌≤◌, min, List, [], ◌∷◌, ◌++◌, length}
+use Rattle.std.specs.Prelude.{Some, None, Ok, Err, Option, Result}
 use Rattle.std.specs.Borrow.{Bor}
 use Rattle.fault.specs.declared.kinds.ConsoleFault.{ConsoleFault}
 use Rattle.fault.specs.declared.kinds.ConsoleFault.TheVariants.{Input}
@@ -42,7 +43,14 @@ four n = (n / 16777216 % 256) ∷ (n / 65536 % 256) ∷ (n / 256 % 256) ∷ (n %
 
 -- the bytes of a delivery
 abbrev pub wire : Parts → List ℕ
-wire p = p.suite ∷ (p.key ++ (two (length p.header) ++ (p.header ++ (four (length p.ciphertext) ++ (p.ciphertext ++ p.tag)))))
+wire p =
+    p.suite
+    ∷ (p.key
+    ++ (two (length p.header)
+    ++ (p.header
+    ++ (four (length p.ciphertext)
+    ++ (p.ciphertext
+    ++ p.tag)))))
 
 -- the refusal of n bytes that are no delivery
 abbrev pub malformed : ℕ → Refusal ConsoleFault
@@ -50,20 +58,32 @@ malformed n = refusal Input 1 ConsoleLayer (min n input_limit)
 
 -- what the slices of a parsed delivery hold
 abbrev pub parts_of : Delivery → Parts
-parts_of d = record { suite = d.suite; key = d.key.now; header = d.header.now; ciphertext = d.ciphertext.now; tag = d.tag.now }
+parts_of d = record {
+  suite = d.suite;
+  key = d.key.now;
+  header = d.header.now;
+  ciphertext = d.ciphertext.now;
+  tag = d.tag.now;
+}
 
 -- what parsing answers: the one delivery with these bytes, or a refusal where there is none
 abbrev pub Parsed : List ℕ → Result Delivery (Placed ConsoleFault) → Type 0
-Parsed input (Ok d) = Limits (parts_of d) × (wire (parts_of d) ≡ input) × ((p : Parts) → Limits p → wire p ≡ input → p ≡ parts_of d)
-Parsed input (Err e) = IsRefusal console_faults (malformed (length input)) e × ((p : Parts) → Limits p → wire p ≢ input)
+Parsed input (Ok d) =
+    Limits (parts_of d) × (wire (parts_of d) ≡ input)
+    × ((p : Parts) → Limits p → wire p ≡ input → p ≡ parts_of d)
+Parsed input (Err e) =
+    IsRefusal console_faults (malformed (length input)) e
+    × ((p : Parts) → Limits p → wire p ≢ input)
 
 -- the same, before a refusal has its place
 abbrev pub Found : List ℕ → Option Delivery → Type 0
 Found input (Some d) = Limits (parts_of d) × (wire (parts_of d) ≡ input)
 Found input None = (p : Parts) → Limits p → wire p ≢ input
 
--- what a cut at the front answers: a piece of which P holds, as the bytes w, and the rest; or that there is none
-abbrev pub Taken : (List ℕ → Type 0) → (List ℕ → List ℕ) → List ℕ → Option (Bor (List ℕ) × Bor (List ℕ)) → Type 0
+-- what a cut at the front answers: a piece of which P holds, and which w writes as bytes, and the
+-- rest; or that there is none
+abbrev pub Taken : (P : List ℕ → Type 0) (w : List ℕ → List ℕ) (input : List ℕ)
+    → Option (Bor (List ℕ) × Bor (List ℕ)) → Type 0
 Taken P w input (Some x) = P x.0.now × (w x.0.now ++ x.1.now ≡ input)
 Taken P w input None = (s rest : List ℕ) → P s → w s ++ rest ≢ input
 

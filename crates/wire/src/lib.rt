@@ -1,4 +1,4 @@
-// Deliveries as bytes: the parts of one, and how it is parsed.
+//! Deliveries as bytes: the parts of one, and how it is parsed.
 #![tactic(auto)]
 
 pub mod parse;

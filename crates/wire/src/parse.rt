@@ -16,7 +16,7 @@ pub const HEADER_LIMIT: usize = 4096;
 /// How many bytes the ciphertext of a delivery may have.
 pub const CIPHERTEXT_LIMIT: usize = 16384;
 
-/// One byte more than the longest delivery has: so much of an input is read, and a longer one is
+/// One byte more than the longest delivery has: no more of an input is read, and a longer one is
 /// refused at this place.
 pub const INPUT_LIMIT: usize = 20520;
 
@@ -54,7 +54,8 @@ fn cut_within(input: &[u8], n: usize, most: usize) -> Option<(&[u8], &[u8])>
 
 // The header after its length, and the rest.
 //
-// One function for this and the next would take the number's type, its width and the limit, and be longer than the two.
+// One function for this and the next would take the number's type, its width and the limit, and be
+// longer than the two.
 fn cut_header(input: &[u8]) -> Option<(&[u8], &[u8])>
     ensures { Taken (λ s. length s ≤ header_limit) two_ahead input.now result }
 {
@@ -67,7 +68,7 @@ fn cut_ciphertext(input: &[u8]) -> Option<(&[u8], &[u8])>
     ensures { Taken (λ s. length s ≤ ciphertext_limit) four_ahead input.now result }
 {
     let (length, rest) = input.split_first_chunk::<4>()?;
-    // a `u32` has no `From` to a `usize`
+    // `usize` has no `From<u32>`.
     cut_within(rest, u32::from_be_bytes(*length) as usize, CIPHERTEXT_LIMIT)
 }
 
