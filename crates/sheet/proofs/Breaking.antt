@@ -8,7 +8,7 @@ use Rattle.fault.specs.declared.kinds.Placed.{Placed}
 use Rattle.fault.specs.Refusals.{sheet_faults}
 use Rattle.sheet.specs.declared.entry.Kind.{Kind}
 use Rattle.sheet.specs.declared.entry.Kind.TheVariants.{Code, Parent, Count, Landing, Months, Drawing}
-use Rattle.sheet.specs.Table.{row_of, in_row, stands, is_unknown, is_required, known_at, complete_at, all_below}
+use Rattle.sheet.specs.Table.{row_of, in_row, is_set, is_unknown, is_required, known_at, complete_at, all_below}
 use Rattle.sheet.specs.Entries.{Item, signs, two}
 use Rattle.sheet.specs.Reading.{Read, got, fault, next, check, some, two_of, read_code, read_number, read_landing, read_drawing, read_held, read_fields, read_item}
 use Rattle.sheet.specs.Breaks.{IsField, AreFields, IsDrawingCut, IsCut, IsOutside, AtField, HasUnknown, LacksBit, kinds_of, FailsAt, EndsEarly, HasUnknownBit, MissesBit, HasBadValue, RefusedAt, cut, unknown_bit, missing, value}
@@ -74,7 +74,7 @@ neither false false e = absurd (true_false e)
 unknown_from : (m : ℕ) → all_below (known_at m) 16 ≡ false → HasUnknown m
 unknown_from m e =
     let f = fails_at (known_at m) e in
-    let b = not_both (stands m f.0) (is_unknown (row_of f.0).need) f.2 in
+    let b = not_both (is_set m f.0) (is_unknown (row_of f.0).need) f.2 in
     let q : leb 6 f.0 ≡ true = sym (unknown_row f.0 f.1) ∙ b.1 in
     (f.0, grind (arith, nat_tests), f.1, b.0)
 
@@ -86,11 +86,11 @@ unknown_fails m (k, s, l, on) e =
 lacks_from : (m : ℕ) → all_below (complete_at m) 16 ≡ false → LacksBit m
 lacks_from m e =
     let f = fails_at (complete_at m) e in
-    let b = neither (stands m f.0) (is_required (row_of f.0).need) f.2 in
+    let b = neither (is_set m f.0) (is_required (row_of f.0).need) f.2 in
     let q : (eqb f.0 0 || eqb f.0 2) ≡ true = sym (required_row f.0 f.1) ∙ b.1 in
     either (eqb f.0 0)
-    (λ z. inl (subst (λ k. stands m k ≡ false) (true-eqb f.0 0 (sym z)) b.0))
-    (λ z. inr (subst (λ k. stands m k ≡ false) (true-eqb f.0 2 (sym (ap (λ t. t || eqb f.0 2) (sym z) ∙ q))) b.0))
+    (λ z. inl (subst (λ k. is_set m k ≡ false) (true-eqb f.0 0 (sym z)) b.0))
+    (λ z. inr (subst (λ k. is_set m k ≡ false) (true-eqb f.0 2 (sym (ap (λ t. t || eqb f.0 2) (sym z) ∙ q))) b.0))
 
 lacks_fails : (m : ℕ) → LacksBit m → all_below (complete_at m) 16 ≡ true → ⊥
 unfolding row_of
@@ -263,15 +263,15 @@ may : {X Y : Type 0} (k : Kind) (on : Bool) (ks : List Kind) (p : List ℕ → R
 may k true ks p bs K e f = held_must k ks (p bs) bs K e f
 may k false ks p bs K e f = f None bs
 
-fields_skipped : (m : ℕ) (bs : List ℕ) → stands m 0 ≡ true → stands m 2 ≡ true → forget (read_fields m bs) ≡ skips (kinds_of m) bs
+fields_skipped : (m : ℕ) (bs : List ℕ) → is_set m 0 ≡ true → is_set m 2 ≡ true → forget (read_fields m bs) ≡ skips (kinds_of m) bs
 unfolding skips
 fields_skipped m bs h0 h2 =
-    must Code (stands m 0) _ (read_code 0 bs) bs _ h0 refl λ c r1.
-    may Parent (stands m 1) _ (read_code 1) r1 _ refl λ p r2.
-    must Count (stands m 2) _ (read_number 2 r2) r2 _ h2 refl λ n r3.
-    may Landing (stands m 3) _ read_landing r3 _ refl λ l r4.
-    may Months (stands m 4) _ (read_number 4) r4 _ refl λ o r5.
-    may Drawing (stands m 5) _ read_drawing r5 _ refl λ d r6.
+    must Code (is_set m 0) _ (read_code 0 bs) bs _ h0 refl λ c r1.
+    may Parent (is_set m 1) _ (read_code 1) r1 _ refl λ p r2.
+    must Count (is_set m 2) _ (read_number 2 r2) r2 _ h2 refl λ n r3.
+    may Landing (is_set m 3) _ read_landing r3 _ refl λ l r4.
+    may Months (is_set m 4) _ (read_number 4) r4 _ refl λ o r5.
+    may Drawing (is_set m 5) _ read_drawing r5 _ refl λ d r6.
     refl
 
 forget_fault : {X : Type 0} (o : Read X) (f : SheetFault) → forget o ≡ fault f → o ≡ fault f
@@ -279,8 +279,8 @@ forget_fault (got a r) f e = absurd (fault_got f tt r (sym e))
 forget_fault (fault g) f e = ap (λ x. fault x) (fault_same g f e)
 
 -- a bit that does not lack
-has_bits : (m : ℕ) → (LacksBit m → ⊥) → (stands m 0 ≡ true) × (stands m 2 ≡ true)
-has_bits m n = (either (stands m 0) (λ e. e) (λ e. absurd (n (inl e))), either (stands m 2) (λ e. e) (λ e. absurd (n (inr e))))
+has_bits : (m : ℕ) → (LacksBit m → ⊥) → (is_set m 0 ≡ true) × (is_set m 2 ≡ true)
+has_bits m n = (either (is_set m 0) (λ e. e) (λ e. absurd (n (inl e))), either (is_set m 2) (λ e. e) (λ e. absurd (n (inr e))))
 
 all_known : (m : ℕ) → (HasUnknown m → ⊥) → all_below (known_at m) 16 ≡ true
 all_known m n = either (all_below (known_at m) 16) (λ e. e) (λ e. absurd (n (unknown_from m e)))

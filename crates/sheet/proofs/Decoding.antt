@@ -5,7 +5,7 @@ use Rattle.std.proofs.lemmas.List.Elements.{All-drop}
 use Rattle.fault.specs.declared.kinds.SheetFault.{SheetFault}
 use Rattle.fault.specs.declared.kinds.SheetFault.TheVariants.{Cut}
 use Rattle.fault.specs.declared.kinds.Placed.{Placed}
-use Rattle.sheet.specs.Table.{stands}
+use Rattle.sheet.specs.Table.{is_set}
 use Rattle.sheet.specs.Entries.{Item, Good, Held, two, one, text, counted, held, item_map, map_of, bytes, sheet_of, AllGood, Lent, item_of}
 use Rattle.sheet.specs.Reading.{Read, got, fault, next, read_code, read_number, read_landing, read_drawing, read_held, read_map, item, read_fields, read_item}
 use Rattle.sheet.specs.Calls.{Follows, Holds, Broken}
@@ -54,16 +54,16 @@ field_bytes e rest = e.code ++ (held text e.parent ++ (two e.count ++ (held one 
 pub record Fields (m : ℕ) (bs : List ℕ) (rest : List ℕ) (e : Item) : Type 0 where
   pub good : Good e
   pub is : bs ≡ field_bytes e rest
-  pub flags : item_map e ≡ map_of (stands m 1) (stands m 3) (stands m 4) (stands m 5)
+  pub flags : item_map e ≡ map_of (is_set m 1) (is_set m 3) (is_set m 4) (is_set m 5)
 
 sound_fields : (m : ℕ) (bs : List ℕ) (e : Item) (rest : List ℕ) → Octets bs → read_fields m bs ≡ got e rest → Fields m bs rest e
 sound_fields m bs e rest h q =
     went (code_lawful 0) _ bs e rest h q λ c r1 gc b1 h1 q1.
-    went_held (code_lawful 1) (stands m 1) _ r1 e rest h1 q1 λ p r2 gp b2 f2 h2 q2.
+    went_held (code_lawful 1) (is_set m 1) _ r1 e rest h1 q1 λ p r2 gp b2 f2 h2 q2.
     went count_lawful _ r2 e rest h2 q2 λ n r3 gn b3 h3 q3.
-    went_held landing_lawful (stands m 3) _ r3 e rest h3 q3 λ l r4 gl b4 f4 h4 q4.
-    went_held months_lawful (stands m 4) _ r4 e rest h4 q4 λ o r5 go b5 f5 h5 q5.
-    went_held drawing_lawful (stands m 5) _ r5 e rest h5 q5 λ d r6 gd b6 f6 h6 q6.
+    went_held landing_lawful (is_set m 3) _ r3 e rest h3 q3 λ l r4 gl b4 f4 h4 q4.
+    went_held months_lawful (is_set m 4) _ r4 e rest h4 q4 λ o r5 go b5 f5 h5 q5.
+    went_held drawing_lawful (is_set m 5) _ r5 e rest h5 q5 λ d r6 gd b6 f6 h6 q6.
     let g = got_same (item c p n l o d) e r6 rest q6 in
     subst (Fields m bs rest) g.0 (record {
       good = record { code = gc; parent = gp; count = gn; landing = gl; months = go; drawing = gd };

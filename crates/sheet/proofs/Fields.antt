@@ -7,7 +7,7 @@ use Rattle.std.proofs.lemmas.Bool.Decides.{nat_tests, Decides-below_and, Decides
 use Rattle.std.proofs.lemmas.Int.{to_z-of_z, of_z-to_z}
 use Rattle.fault.specs.declared.kinds.SheetFault.{SheetFault}
 use Rattle.fault.specs.declared.kinds.SheetFault.TheVariants.{Cut, UnknownBit, Missing, Value}
-use Rattle.sheet.specs.Table.{row_of, in_row, stands, is_unknown, known_at, complete_at, all_below}
+use Rattle.sheet.specs.Table.{row_of, in_row, is_set, is_unknown, known_at, complete_at, all_below}
 use Rattle.sheet.specs.Entries.{signs, CodeForm, NumberForm, LandingForm, DrawingForm, Held, two, one, text, counted, held, map_of}
 use Rattle.sheet.specs.Reading.{Read, got, fault, next, check, some, read_code, two_of, read_number, read_landing, read_drawing, read_held, read_map}
 use Rattle.sheet.proofs.Maps.{all_at, not_false, down}
@@ -210,13 +210,13 @@ map_passes false false false true rest = refl
 map_passes false false false false rest = refl
 
 pub record Flags (x : ℕ) (p l m d : Bool) : Type 0 where
-  pub parent : stands x 1 ≡ p
-  pub landing : stands x 3 ≡ l
-  pub months : stands x 4 ≡ m
-  pub drawing : stands x 5 ≡ d
+  pub parent : is_set x 1 ≡ p
+  pub landing : is_set x 3 ≡ l
+  pub months : is_set x 4 ≡ m
+  pub drawing : is_set x 5 ≡ d
   pub small : x < 65536
 
-flags_by : (x : ℕ) → ltb x 65536 ≡ true → Flags x (stands x 1) (stands x 3) (stands x 4) (stands x 5)
+flags_by : (x : ℕ) → ltb x 65536 ≡ true → Flags x (is_set x 1) (is_set x 3) (is_set x 4) (is_set x 5)
 flags_by x h = record { parent = refl; landing = refl; months = refl; drawing = refl; small = grind (arith, nat_tests) }
 
 pub map_flags : (p l m d : Bool) → Flags (map_of p l m d) p l m d
@@ -244,16 +244,16 @@ map_back p l m d rest =
 
 -- a map that passes is that of its flags: a test at each number below 64
 abbrev again : ℕ → ℕ
-again x = map_of (stands x 1) (stands x 3) (stands x 4) (stands x 5)
+again x = map_of (is_set x 1) (is_set x 3) (is_set x 4) (is_set x 5)
 
 abbrev tested : ℕ → Bool
-tested x = cond (stands x 0 && stands x 2) (eqb (again x) x) true
+tested x = cond (is_set x 0 && is_set x 2) (eqb (again x) x) true
 
 abbrev all_tested : ℕ → Bool
 all_tested zero = true
 all_tested (suc n) = tested n && all_tested n
 
-map_again : (x : ℕ) → x < 64 → (stands x 0 && stands x 2) ≡ true → again x ≡ x
+map_again : (x : ℕ) → x < 64 → (is_set x 0 && is_set x 2) ≡ true → again x ≡ x
 map_again x h s =
     let d = Decides-below_and tested (λ k. tested k ≡ true) all_tested (λ k. (λ e. e, λ e. e)) refl (λ n. refl) 64 in
     let t = d.0 refl x h in
@@ -262,7 +262,7 @@ map_again x h s =
 halved : (x k : ℕ) → all_below (known_at x) 16 ≡ true → k < 16 → is_unknown (row_of k).need ≡ true → x / 2 ^ k % 2 ≡ 0
 halved x k h l u =
     let t = all_at (known_at x) 16 k h l in
-    let s : (stands x k && true) ≡ false = subst (λ b. (stands x k && b) ≡ false) u (not_false _ t) in
+    let s : (is_set x k && true) ≡ false = subst (λ b. (is_set x k && b) ≡ false) u (not_false _ t) in
     grind (arith, nat_tests)
 
 below_64 : (x : ℕ) → x < 65536 → all_below (known_at x) 16 ≡ true → x < 64
@@ -280,11 +280,11 @@ below_64 x w h =
     let a6 : x / 64 % 2 ≡ 0 = halved x 6 h (omega arith) refl in
     down 32768 x w a15 λ w15. down 16384 x w15 a14 λ w14. down 8192 x w14 a13 λ w13. down 4096 x w13 a12 λ w12. down 2048 x w12 a11 λ w11. down 1024 x w11 a10 λ w10. down 512 x w10 a9 λ w9. down 256 x w9 a8 λ w8. down 128 x w8 a7 λ w7. down 64 x w7 a6 λ w6. w6
 
-required : (x : ℕ) → all_below (complete_at x) 16 ≡ true → (stands x 0 && stands x 2) ≡ true
+required : (x : ℕ) → all_below (complete_at x) 16 ≡ true → (is_set x 0 && is_set x 2) ≡ true
 unfolding row_of
 required x h =
-    let a : (stands x 0 || false) ≡ true = all_at (complete_at x) 16 0 h (omega arith) in
-    let b : (stands x 2 || false) ≡ true = all_at (complete_at x) 16 2 h (omega arith) in
+    let a : (is_set x 0 || false) ≡ true = all_at (complete_at x) 16 0 h (omega arith) in
+    let b : (is_set x 2 || false) ≡ true = all_at (complete_at x) 16 2 h (omega arith) in
     grind arith
 
 pub map_sound : (bs : List ℕ) (x : ℕ) (rest : List ℕ) → Octets bs → read_map bs ≡ got x rest → (again x ≡ x) × (bs ≡ two x ++ rest)

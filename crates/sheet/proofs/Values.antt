@@ -74,9 +74,12 @@ entry_whole e out g f =
     let same : (((((([] ++ two (item_map e)) ++ e.code) ++ held text e.parent) ++ two e.count) ++ held one e.landing) ++ held two e.months) ++ held counted e.drawing ≡ bytes e = simp append_assoc in
     f.is ∙ ap (take 56) same ∙ take_all 56 (bytes e) (bytes_short e g)
 
-pub drawing_short : (o : Option (Bor (List ℕ))) (s : Bor (List ℕ)) → o ≡ Some s → Held DrawingForm (option_map (λ x. x.now) o) → length s.now ≤ 32
+abbrev pub lent : Option (Bor (List ℕ)) → Option (List ℕ)
+lent o = option_map (λ s. s.now) o
+
+pub drawing_short : (o : Option (Bor (List ℕ))) (s : Bor (List ℕ)) → o ≡ Some s → Held DrawingForm (lent o) → length s.now ≤ 32
 drawing_short o s e f =
-    let P : Option (Bor (List ℕ)) → Type 0 = λ p. Held DrawingForm (option_map (λ x. x.now) p) in
+    let P : Option (Bor (List ℕ)) → Type 0 = λ p. Held DrawingForm (lent p) in
     let g : P (Some s) = subst P e f in
     short (length s.now) g.0
 

@@ -1,14 +1,16 @@
 -- Where no good entry stands at the front of some bytes: the rule that they break first, in the
 -- order of an entry's bytes, and the refusal that it has.
-use Rattle.std.specs.Prelude.{◌≡◌, ℕ, ◌<◌, ◌≤◌, ◌⊎◌, true, false, List, [], ◌∷◌, ◌++◌, filter, length, ℤ, pos}
+use Rattle.std.specs.Prelude.{◌≡◌, ℕ, ◌<◌, ◌≤◌, ◌⊎◌, true, false, List}
+use Rattle.std.specs.Prelude.{[], ◌∷◌, ◌++◌, filter, length, ℤ, pos}
 use Rattle.fault.specs.declared.kinds.SheetFault.{SheetFault}
 use Rattle.fault.specs.declared.kinds.SheetFault.TheVariants.{Cut, UnknownBit, Missing, Value}
 use Rattle.fault.specs.declared.kinds.Layer.TheVariants.{Sheet as SheetLayer}
 use Rattle.fault.specs.declared.kinds.Placed.{Placed}
 use Rattle.fault.specs.Refusals.{IsRefusal, refusal, sheet_faults}
 use Rattle.sheet.specs.declared.entry.Kind.{Kind}
-use Rattle.sheet.specs.declared.entry.Kind.TheVariants.{Code, Parent, Count, Landing, Months, Drawing}
-use Rattle.sheet.specs.Table.{bit_of, in_row, row_of, stands}
+use Rattle.sheet.specs.declared.entry.Kind.TheVariants.{Code, Parent, Count}
+use Rattle.sheet.specs.declared.entry.Kind.TheVariants.{Landing, Months, Drawing}
+use Rattle.sheet.specs.Table.{bit_of, in_row, row_of, is_set}
 use Rattle.sheet.specs.Entries.{CodeForm, NumberForm, LandingForm, DrawingForm, two, one, counted}
 
 -- the bytes s are a field of a kind, and it has its form
@@ -52,18 +54,18 @@ pub record AtField (P : Kind → List ℕ → Type 0) (ks : List Kind) (bs : Lis
   pub good : AreFields before front
   pub broken : P kind rest
 
--- a bit stands that is of no kind
+-- a bit is set that is of no kind
 abbrev pub HasUnknown : ℕ → Type 0
-HasUnknown m = (k : ℕ) × (6 ≤ k) × (k < 16) × (stands m k ≡ true)
+HasUnknown m = (k : ℕ) × (6 ≤ k) × (k < 16) × (is_set m k ≡ true)
 
 -- the bit of the code or of the count is missing
 abbrev pub LacksBit : ℕ → Type 0
-LacksBit m = (stands m 0 ≡ false) ⊎ (stands m 2 ≡ false)
+LacksBit m = (is_set m 0 ≡ false) ⊎ (is_set m 2 ≡ false)
 
 -- the kinds of the fields that a map tells, in the order of their bits
 abbrev pub kinds_of : ℕ → List Kind
 kinds_of m =
-    filter (λ k. stands m (bit_of k)) (Code ∷ Parent ∷ Count ∷ Landing ∷ Months ∷ Drawing ∷ [])
+    filter (λ k. is_set m (bit_of k)) (Code ∷ Parent ∷ Count ∷ Landing ∷ Months ∷ Drawing ∷ [])
 
 -- the bytes begin with a map, and P holds of it and of the bytes behind it
 abbrev pub HasMap : (ℕ → List ℕ → Type 0) → List ℕ → Type 0

@@ -1,5 +1,6 @@
 -- What the sheet's calls do: which answer or refusal they give, and what the buffer then holds.
-use Rattle.std.specs.Prelude.{◌≡◌, ℕ, ◌+◌, ◌-◌, ◌<◌, ◌≤◌, ◌⊎◌, Bool, true, false, List, [], ◌∷◌, ◌++◌, length, take, drop, Some, None, Ok, Err, Option, Result}
+use Rattle.std.specs.Prelude.{◌≡◌, ℕ, ◌+◌, ◌-◌, ◌<◌, ◌≤◌, ◌⊎◌, Bool, true, false, List, [], ◌∷◌}
+use Rattle.std.specs.Prelude.{◌++◌, length, take, drop, Some, None, Ok, Err, Option, Result}
 use Rattle.std.specs.Borrow.{Bor}
 use Rattle.std.specs.Option.{option_map}
 use Rattle.fault.specs.declared.kinds.SheetFault.{SheetFault}
@@ -9,7 +10,8 @@ use Rattle.fault.specs.declared.kinds.Layer.TheVariants.{Sheet as SheetLayer}
 use Rattle.fault.specs.Refusals.{Refusal, IsRefusal, refusal, sheet_faults}
 use Rattle.sheet.specs.declared.entry.Entry.{Entry}
 use Rattle.sheet.specs.declared.entry.Field.{Field}
-use Rattle.sheet.specs.declared.entry.Field.TheVariants.{Code, Parent, Count, Landing, Months, Drawing}
+use Rattle.sheet.specs.declared.entry.Field.TheVariants.{Code, Parent, Count}
+use Rattle.sheet.specs.declared.entry.Field.TheVariants.{Landing, Months, Drawing}
 use Rattle.sheet.specs.declared.entry.Kind.{Kind}
 use Rattle.sheet.specs.declared.entry.Kind.TheVariants as kind
 use Rattle.sheet.specs.Entries.{Item, Held, Good, AllGood, bytes, sheet_of, Lent, item_of}
@@ -54,7 +56,7 @@ abbrev pub Told : {T X : Type 0} → (T → X) → Read X → Result (T × Bor (
 Told f o (Ok x) = o ≡ got (f x.0) x.1.now
 Told f o (Err e) = o ≡ fault e
 
--- The same of a field that is read only if its bit stands, where P says what the reading of such a
+-- The same of a field that is read only if its bit is set, where P says what the reading of such a
 -- field may answer.
 abbrev pub HeldOr : {T : Type 0} → Bool → Bor (List ℕ)
     → (Result (T × Bor (List ℕ)) SheetFault → Type 0)

@@ -1,6 +1,8 @@
 -- What an entry says, the forms of its fields, and its bytes; a sheet is the bytes of its entries,
 -- end to end.
-use Rattle.std.specs.Prelude.{◌≡◌, ℕ, ◌+◌, ◌/◌, ◌%◌, Bool, true, false, cond, ◌&&◌, ◌||◌, List, [], ◌∷◌, ◌++◌, length, ℤ, pos, is_some, Some, None, Option, ◌==◌, nat_le}
+use Rattle.std.specs.Prelude.{◌≡◌, ℕ, ◌+◌, ◌/◌, ◌%◌, Bool, true, false, if◌then◌else◌}
+use Rattle.std.specs.Prelude.{◌&&◌, ◌||◌, List, [], ◌∷◌, ◌++◌, length, ℤ, pos}
+use Rattle.std.specs.Prelude.{is_some, Some, None, Option, ◌==◌, nat_le}
 use Rattle.std.proofs.Common.{of_z}
 use Rattle.std.specs.Int.{w8}
 use Rattle.std.specs.List.{list_all}
@@ -18,7 +20,7 @@ pub record Item : Type 0 where
   pub months : Option ℕ
   pub drawing : Option (List ℕ)
 
--- A to Z, 0 to 9, and a slash where one may stand
+-- A to Z, 0 to 9, and a slash where one is allowed
 abbrev pub sign : Bool → ℕ → Bool
 sign slash b = (nat_le 65 b && nat_le b 90) || ((nat_le 48 b && nat_le b 57) || (slash && b == 47))
 
@@ -73,9 +75,10 @@ abbrev pub held : {A : Type 0} → (A → List ℕ) → Option A → List ℕ
 held w None = []
 held w (Some a) = w a
 
--- the map: bits 0 and 2 stand, and of the others those whose field is there
+-- the map: bits 0 and 2 are set, and of the others those whose field is there
 abbrev pub map_of : (parent landing months drawing : Bool) → ℕ
-map_of p l m d = 5 + cond p 2 0 + cond l 8 0 + cond m 16 0 + cond d 32 0
+map_of p l m d =
+    5 + (if p then 2 else 0) + (if l then 8 else 0) + (if m then 16 else 0) + (if d then 32 else 0)
 
 abbrev pub item_map : Item → ℕ
 item_map e = map_of (is_some e.parent) (is_some e.landing) (is_some e.months) (is_some e.drawing)
@@ -98,8 +101,8 @@ sheet_of (e ∷ es) = bytes e ++ sheet_of es
 -- how many fields it has
 abbrev pub field_count : Item → ℕ
 field_count e =
-    2 + cond (is_some e.parent) 1 0 + cond (is_some e.landing) 1 0
-    + cond (is_some e.months) 1 0 + cond (is_some e.drawing) 1 0
+    2 + (if is_some e.parent then 1 else 0) + (if is_some e.landing then 1 else 0)
+    + (if is_some e.months then 1 else 0) + (if is_some e.drawing then 1 else 0)
 
 -- the entry that the code holds, where t is what a text says
 abbrev pub item_by : {T : Type 0} → (T → List ℕ) → Entry T → Item

@@ -1,12 +1,13 @@
 -- Reading one entry from the front of some bytes: what it says and the bytes behind it, or a fault.
 -- `Laws` states that an entry is read exactly where its bytes stand, and that the fault is that of
 -- the rule which is broken first, as `Breaks` has it.
-use Rattle.std.specs.Prelude.{ℕ, ◌+◌, ◌*◌, Bool, true, false, List, length, take, drop, ℤ, pos, Some, None, Option, nat_le, slice_index}
+use Rattle.std.specs.Prelude.{ℕ, ◌+◌, ◌*◌, Bool, true, false, List, length, take}
+use Rattle.std.specs.Prelude.{drop, ℤ, pos, Some, None, Option, nat_le, slice_index}
 use Rattle.std.proofs.Common.{to_z}
 use Rattle.std.specs.Int.{w8}
 use Rattle.fault.specs.declared.kinds.SheetFault.{SheetFault}
 use Rattle.fault.specs.declared.kinds.SheetFault.TheVariants.{Cut, UnknownBit, Missing, Value}
-use Rattle.sheet.specs.Table.{row_of, in_row, stands, known_at, complete_at, all_below}
+use Rattle.sheet.specs.Table.{row_of, in_row, is_set, known_at, complete_at, all_below}
 use Rattle.sheet.specs.Entries.{Item, signs}
 
 -- a value and what is left, or a refusal
@@ -52,12 +53,12 @@ read_drawing bs =
     check (in_row 5 (pos (slice_index s 0))) Value
     (next (some (slice_index s 0) rest) (λ t after. check (signs true t) Value (got t after))))
 
--- a field that is read only if its bit stands
+-- a field that is read only if its bit is set
 abbrev pub read_held : {X : Type 0} → (List ℕ → Read X) → Bool → List ℕ → Read (Option X)
 read_held p false bs = got None bs
 read_held p true bs = next (p bs) (λ a rest. got (Some a) rest)
 
--- the map: cut short, then a bit that may not stand, then one that is missing
+-- the map: cut short, then a bit that may not be set, then one that is missing
 abbrev pub read_map : List ℕ → Read ℕ
 read_map bs =
     next (some 2 bs)
@@ -71,11 +72,11 @@ item c p n l m d = record { code = c; parent = p; count = n; landing = l; months
 abbrev pub read_fields : ℕ → List ℕ → Read Item
 read_fields m bs =
     next (read_code 0 bs) λ c r1.
-    next (read_held (read_code 1) (stands m 1) r1) λ p r2.
+    next (read_held (read_code 1) (is_set m 1) r1) λ p r2.
     next (read_number 2 r2) λ n r3.
-    next (read_held read_landing (stands m 3) r3) λ l r4.
-    next (read_held (read_number 4) (stands m 4) r4) λ o r5.
-    next (read_held read_drawing (stands m 5) r5) λ d r6.
+    next (read_held read_landing (is_set m 3) r3) λ l r4.
+    next (read_held (read_number 4) (is_set m 4) r4) λ o r5.
+    next (read_held read_drawing (is_set m 5) r5) λ d r6.
     got (item c p n l o d) r6
 
 abbrev pub read_item : List ℕ → Read Item

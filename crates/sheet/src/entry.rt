@@ -1,5 +1,5 @@
-// One entry, its fields, and their kinds. T holds the text of a code or a drawing: a part of the
-// sheet or of what the caller lends, or a copy.
+//! One entry, its fields, and their kinds. T holds the text of a code or a drawing: a part of the
+//! sheet or of what the caller lends, or a copy.
 
 /// One entry of a parts sheet: a part, and where and how often it is needed.
 #[derive(Clone, Copy, PartialEq, Eq)]

@@ -1,4 +1,4 @@
-// The tests of an entry's values.
+//! The tests of an entry's values.
 ghost use Rattle.std.specs.Prelude.{◌≡◌, ◌↔◌, IsTrue};
 ghost use Rattle.sheet.specs.Table.{bit_of};
 ghost use Rattle.sheet.specs.Entries.{Good, item_of, sign, signs};
@@ -6,7 +6,7 @@ ghost use Rattle.sheet.specs.Tests.{code_test, drawing_test};
 
 use crate::entry::{Entry, Kind};
 
-// A to Z, 0 to 9, and a slash where one may stand.
+// A to Z, 0 to 9, and a slash where one is allowed.
 fn is_sign(slash: bool, b: u8) -> bool
     ensures { result ≡ sign slash b }
 {
@@ -41,7 +41,7 @@ fn drawing_ok(s: &[u8]) -> bool
     }
 }
 
-/// Whether every field has its form.
+/// Whether every field has its form: the signs and the length of a text, the bounds of a number.
 pub fn is_good(e: Entry<&[u8]>) -> bool
     ensures { IsTrue result ↔ Good (item_of e.entry) }
 {

@@ -1,8 +1,9 @@
-// The fields of an entry, each read from the front of some bytes.
+//! The fields of an entry, each read from the front of some bytes.
 ghost use Rattle.std.specs.Prelude.{◌≡◌, ℕ, ◌+◌, ◌-◌, ◌<◌, ◌≤◌, length, IfOk};
 ghost use Rattle.sheet.specs.Table.{bit_of, row_of};
 ghost use Rattle.sheet.specs.Entries.{item_of};
-ghost use Rattle.sheet.specs.Reading.{read_code, read_drawing, read_item, read_landing, read_map, read_number, some};
+ghost use Rattle.sheet.specs.Reading.{read_code, read_drawing, read_item};
+ghost use Rattle.sheet.specs.Reading.{read_landing, read_map, read_number, some};
 ghost use Rattle.sheet.specs.Calls.{Ends, HeldTold, InPlace, Lies, Told};
 
 use crate::entry::{Entry, Kind};
@@ -86,7 +87,7 @@ fn read_drawing(bytes: &[u8]) -> Read<'_, &[u8]>
     Ok((drawing, rest))
 }
 
-// A field that is read only if its bit stands.
+// A field that is read only if its bit is set.
 fn read_held<'a, T, F: FnOnce(&'a [u8]) -> Read<'a, T>>(
     on: bool,
     bytes: &'a [u8],
@@ -102,7 +103,7 @@ fn read_held<'a, T, F: FnOnce(&'a [u8]) -> Read<'a, T>>(
     Ok((Some(value), rest))
 }
 
-// The map: cut short, then a bit that may not stand, then one that is missing.
+// The map. Tested in this order: it is cut short, a bit is set that may not be, one is missing.
 fn read_map(bytes: &[u8]) -> Read<'_, u16>
     ensures told { Told (λ m. m) (read_map bytes.now) result }
     ensures long { IfOk result (λ x. length x.1.now + 2 ≡ length bytes.now) }

@@ -1,4 +1,4 @@
-// The reader of an opened sheet, entry by entry.
+//! The reader of an opened sheet, entry by entry.
 ghost use Rattle.std.specs.Prelude.{◌≡◌, ◌<◌, ◌≤◌, List, All, length, drop, None};
 ghost use Rattle.sheet.specs.Entries.{AllGood, Item, sheet_of};
 ghost use Rattle.sheet.specs.Calls.{Answered, AnsweredInPlace, Follows, last_field, last_of};
@@ -7,7 +7,7 @@ use crate::entry::{Entry, Field, Kind};
 use crate::parts::read_entry;
 use fault::kinds::{Placed, SheetFault};
 
-/// Reads an opened sheet: a place in it, and the entry last answered.
+/// Reads an opened sheet: a place in it, counted in bytes, and the entry last answered.
 #[derive(Drop)]
 pub struct Reader<'a> {
     sheet: &'a [u8],
@@ -32,7 +32,8 @@ impl<'a> Reader<'a> {
     /// The following entry, or `None` at the sheet's end.
     ///
     /// # Errors
-    /// The refusal, 10 to 13, of what stands at the place; it leaves the reader as it was.
+    ///
+    /// The refusal, 10 to 13, of the bytes at the place; it leaves the reader as it was.
     pub fn next(&mut self) -> Result<Option<Entry<&'a [u8]>>, Placed<SheetFault>>
         ensures answer { Answered self.old.sheet.now self.old.place self.new.place result }
         ensures follows { (es : List Item) → AllGood es

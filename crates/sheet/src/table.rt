@@ -1,10 +1,10 @@
-// The table of an entry's fields: a row for each bit of its map.
+//! The table of an entry's fields: a row for each bit of its map.
 ghost use Rattle.std.specs.Prelude.{◌≡◌, ◌<◌};
 ghost use Rattle.sheet.specs.Table.{bit_of, in_row, row_of};
 
 use crate::entry::Kind;
 
-// Whether a bit must stand, may stand, or may not.
+// Whether a bit must be set, may be set, or may not.
 #[derive(Clone, Copy, PartialEq, Eq)]
 pub(crate) enum Need {
     Required,
@@ -12,7 +12,8 @@ pub(crate) enum Need {
     Unknown,
 }
 
-// The field's bytes, and the lowest and highest number that may stand there.
+// A field: its width in bytes, the lowest and highest number in it, and whether its bit is set. A
+// code has no ends; a drawing's row is that of its length.
 #[derive(Clone, Copy)]
 pub(crate) struct Row {
     pub width: usize,

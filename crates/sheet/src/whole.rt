@@ -1,4 +1,4 @@
-// The test of a whole sheet.
+//! The test of a whole sheet.
 ghost use Rattle.sheet.specs.Calls.{Tested};
 ghost use Rattle.sheet.specs.Laws.{FirstLaw, ReadingLaw, RefusalLaw, UniqueLaw};
 
@@ -8,6 +8,7 @@ use fault::kinds::{Placed, SheetFault};
 /// Tests every entry and answers how many there are. A sheet has one at least.
 ///
 /// # Errors
+///
 /// The refusal, 10 to 13, of the first entry that cannot be read; 10 at place 0 if there is none.
 pub fn test(sheet: &[u8]) -> Result<usize, Placed<SheetFault>>
     ensures { Tested sheet.now result }

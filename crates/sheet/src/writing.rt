@@ -1,7 +1,9 @@
-// Writes entries into a buffer.
-ghost use Rattle.std.specs.Prelude.{◌≡◌, ◌+◌, ◌≤◌, ◌++◌, length, map, take, drop, IfOk};
-ghost use Rattle.sheet.specs.Table.{standing};
-ghost use Rattle.sheet.specs.Entries.{Good, bytes, field_count, item_map, item_of};
+//! Writes entries into a buffer.
+ghost use Rattle.std.specs.Prelude.{◌≡◌, ℕ, ◌+◌, ◌≤◌, ◌++◌, List, length, map, take, drop, IfOk};
+ghost use Rattle.std.specs.Option.{option_map};
+ghost use Rattle.sheet.specs.Table.{set_below};
+ghost use Rattle.sheet.specs.Entries.{DrawingForm, Good, Held, bytes, counted, field_count, held};
+ghost use Rattle.sheet.specs.Entries.{item_map, item_of};
 ghost use Rattle.sheet.specs.Calls.{Put, Wrote};
 ghost use Rattle.sheet.specs.Laws.{Measured, SheetLaw, WritingLaw, WroteAll, WrittenFromStart};
 
@@ -29,18 +31,28 @@ fn encode(e: Entry<&[u8]>) -> Buffer<56>
     if let Some(months) = e.months {
         out.extend(&months.to_be_bytes());
     }
-    if let Some(drawing) = e.drawing {
+    put_drawing(&mut out, e.drawing);
+    out
+}
+
+// A drawing behind its length, if there is one, behind all that was put before.
+fn put_drawing(out: &mut Buffer<56>, drawing: Option<&[u8]>)
+    requires { Held DrawingForm (option_map (λ s. s.now) drawing) }
+    ensures { (all : List ℕ) → out.old ≡ take 56 all
+        → out.new ≡ take 56 (all ++ held counted (option_map (λ s. s.now) drawing.entry)) }
+{
+    if let Some(drawing) = drawing {
         // A drawing of good form has at most 32 bytes; `try_from` would add a refusal that cannot
         // come.
         out.extend(&[drawing.len() as u8]);
         out.extend(drawing);
     }
-    out
 }
 
 /// Puts bytes at a place of the buffer, and answers the place behind them.
 ///
 /// # Errors
+///
 /// 6 where there is no room; the buffer is then unaltered.
 pub fn put(s: &[u8], buf: &mut [u8], at: usize) -> Result<usize, Placed<SheetFault>>
     ensures { Put buf.old buf.new at s.now result }
@@ -59,6 +71,7 @@ pub fn put(s: &[u8], buf: &mut [u8], at: usize) -> Result<usize, Placed<SheetFau
 /// Writes one entry at a place of the buffer, and answers the place where the next would begin.
 ///
 /// # Errors
+///
 /// 13 if a value is outside its form, else 6 if there is no room; the buffer is then unaltered.
 pub fn write(e: Entry<&[u8]>, buf: &mut [u8], at: usize) -> Result<usize, Placed<SheetFault>>
     ensures { Wrote buf.old buf.new at (item_of e.entry) result }
@@ -73,9 +86,9 @@ pub fn write(e: Entry<&[u8]>, buf: &mut [u8], at: usize) -> Result<usize, Placed
     put(out.as_slice(), buf, at)
 }
 
-/// How many fields an entry has: as many as bits stand in its map.
+/// How many fields an entry has: as many as bits are set in its map.
 pub fn fields(e: Entry<&[u8]>) -> u32
-    ensures bits { result ≡ standing (item_map (item_of e.entry)) 16 }
+    ensures bits { result ≡ set_below (item_map (item_of e.entry)) 16 }
     ensures fields { result ≡ field_count (item_of e.entry) }
 {
     map_of(e).count_ones()
@@ -124,6 +137,7 @@ fn put_entry(e: Entry<&[u8]>, buf: &mut [u8], at: usize) -> usize
 /// bytes it has.
 ///
 /// # Errors
+///
 /// The refusal of the first entry that `write` would refuse behind those before it, at the place
 /// where it would begin; the buffer is then unaltered.
 pub fn write_all(entries: &[Entry<&[u8]>], buf: &mut [u8]) -> Result<usize, Placed<SheetFault>>
