@@ -1,5 +1,6 @@
 -- An entry as a line of text, its yearly need, and what the calls that write the line do.
-use Rattle.std.specs.Prelude.{◌≡◌, ℕ, ◌+◌, ◌*◌, ◌/◌, ◌<◌, ◌≤◌, List, [], ◌∷◌, ◌++◌, length, Some, None, decimal, Option, Result}
+use Rattle.std.specs.Prelude.{◌≡◌, ℕ, ◌+◌, ◌*◌, ◌/◌, ◌<◌, ◌≤◌, List, [], ◌∷◌, ◌++◌, length}
+use Rattle.std.specs.Prelude.{Some, None, decimal, Option, Result}
 use Rattle.std.specs.Option.{option_map}
 use Rattle.std.specs.Fmt.{signed_decimal}
 use Rattle.fault.specs.declared.kinds.SheetFault.{SheetFault}
@@ -41,9 +42,8 @@ line_of e = e.code
     ++ (59 ∷ (shown text e.drawing
     ++ (10 ∷ [])))))))))))))
 
--- Writing the line of the entry e into the buffer `old` at a place; q is where the next would
--- begin.
--- Values are tested before room.
+-- Writing the line of the entry e into the buffer `old` at a place, as an entry is written: the
+-- answer is where the next would begin, and values are tested before room.
 abbrev pub Lined : (old new : List ℕ) (at : ℕ) (e : Item) → Result ℕ (Placed SheetFault) → Type 0
 Lined old new at e r = WroteAs old new at e (line_of e) r
 

@@ -1,11 +1,11 @@
-// The fields of a line, put one behind the other into a buffer, as far as there is room.
+//! The fields of a line, put one behind the other into a buffer, as far as there is room.
 ghost use Rattle.std.specs.Prelude.{◌≡◌, ℕ, List, [], ◌∷◌, ◌++◌, take, decimal};
 ghost use Rattle.std.specs.Fmt.{signed_decimal};
 ghost use Rattle.listing.specs.Lines.{shown};
 
 use buffer::Buffer;
 
-// Room for the line of any good entry.
+// Room for the line of any good entry, which has 70 bytes at most.
 pub(crate) type Line = Buffer<70>;
 
 // What a field may hold: its text is put behind what a line has.

@@ -1,4 +1,4 @@
-// An entry as a line of text in a caller's buffer.
+//! An entry as a line of text in a caller's buffer.
 ghost use Rattle.std.specs.Prelude.{◌≡◌};
 ghost use Rattle.sheet.specs.Entries.{Good, item_of};
 ghost use Rattle.listing.specs.Lines.{LineLaw, Lined, line_of};
@@ -31,6 +31,7 @@ fn compose(e: Entry<&[u8]>) -> Line
 /// Writes the line of an entry at a place, and answers where the next would begin.
 ///
 /// # Errors
+///
 /// 13 if a value is outside its form, else 6 if there is no room; the buffer is then unaltered.
 pub fn line(e: Entry<&[u8]>, buf: &mut [u8], at: usize) -> Result<usize, Placed<SheetFault>>
     ensures text { Lined buf.old buf.new at (item_of e.entry) result }

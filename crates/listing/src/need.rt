@@ -1,4 +1,4 @@
-// The yearly need of a part.
+//! The yearly need of a part.
 ghost use Rattle.listing.specs.Lines.{NearestLaw, Needed};
 
 /// How many pieces a year takes, to the nearest whole number and a half upwards, where `count` of
