@@ -1,5 +1,6 @@
 -- Opening a delivered sheet: a list of entries, written and sealed under a key and a header.
-use Rattle.std.specs.Prelude.{◌≡◌, ℕ, ◌<◌, ◌≤◌, ◌⊎◌, ◌↔◌, List, ◌++◌, length, take, drop, replicate, Some, None, Ok, Err, IsOk, IfOk, IfErr, Option, Result}
+use Rattle.std.specs.Prelude.{◌≡◌, ℕ, ◌<◌, ◌≤◌, ◌⊎◌, ◌↔◌, List, ◌++◌, length, take, drop, replicate}
+use Rattle.std.specs.Prelude.{Some, None, Ok, Err, IsOk, IfOk, IfErr, Option, Result}
 use Rattle.fault.specs.declared.kinds.SessionFault.{SessionFault}
 use Rattle.fault.specs.declared.kinds.SheetFault.{SheetFault}
 use Rattle.fault.specs.declared.kinds.SheetFault.TheVariants.{Session}
@@ -16,8 +17,8 @@ use Rattle.suites.specs.Listed.{listed}
 use Rattle.delivery.specs.Told.{suite_of, not_listed}
 use Rattle.wire.specs.Wire.{Parts}
 
--- A list of one or more entries, written by write calls from place 0, end to end and none refused, and
--- then sealed under the header H, gives the ciphertext C and the tag T.
+-- A list of one or more entries, written by write calls from place 0, end to end and none refused,
+-- and then sealed under the header H, gives the ciphertext C and the tag T.
 pub record SheetSeals (f : Functions) (H : List ℕ) (es : List Item) (C T : List ℕ) : Type 0 where
   pub some : 0 < length es
   pub sheet : List ℕ
@@ -28,16 +29,16 @@ pub record SheetSeals (f : Functions) (H : List ℕ) (es : List Item) (C T : Lis
 abbrev pub lifted : Refusal SessionFault → Refusal SheetFault
 lifted e = inside Session e
 
--- Accepted: the sheet of the list es stands in the first bytes of the buffer o', and the rest is as
--- it was in o. Only es seals so.
+-- Accepted: the first bytes of the buffer o' are the sheet of the list es, and the rest is as it
+-- was in o. Only es seals so.
 pub record SheetOpened (f : Functions) (H C T o o' : List ℕ) (es : List Item) : Type 0 where
   pub list : SheetSeals f H es C T
   pub only : (fs : List Item) → SheetSeals f H fs C T → fs ≡ es
   pub front : take (length C) o' ≡ sheet_of es
   pub rest : drop (length C) o' ≡ drop (length C) o
 
--- Refused where no check fails: no message seals so, or what was sealed is broken as a sheet. Zeros
--- stand in the buffer.
+-- Refused where no check fails: no message seals so, or what was sealed is broken as a sheet. The
+-- buffer then has zeros where the sheet would be.
 pub record SheetRefused (f : Functions) (H C T o o' : List ℕ) (e : Placed SheetFault) : Type 0 where
   pub why : (IsRefusal sheet_faults (lifted (forged (length C))) e
       × ((M : List ℕ) → Seals f H M C T → ⊥))

@@ -1,5 +1,5 @@
-// Sealing and opening of whole buffers under a suite that is told by its number. A number that is
-// not listed is refused before every other check.
+//! Sealing and opening of whole buffers under a suite that is told by its number. A number that is
+//! not listed is refused before every other check.
 ghost use Rattle.std.specs.Prelude.{◌≡◌, IfNone, IfSome};
 ghost use Rattle.fault.specs.Refusals.{Refuses, session_faults};
 ghost use Rattle.session.specs.Calls.{OpenCall, SealCall};
@@ -10,8 +10,12 @@ use suite::Suite;
 use suites::at_listed;
 use suites::listed::Listed;
 
-/// Seals as `session::seal` does, under the suite with the number `suite`. Refuses a number that is
-/// not listed (2) before all else, at that number, and alters nothing then.
+/// Seals as `session::seal` does, under the suite with the number `suite`.
+///
+/// # Errors
+///
+/// 2 before all else for a number that is not listed, at that number; the buffers are then
+/// unaltered. Else the refusals of `session::seal`.
 pub fn seal(
     suite: u8,
     key: &[u8],
@@ -30,8 +34,12 @@ pub fn seal(
     at_listed!(listed, sealed(key, header, message, out, tag))
 }
 
-/// Opens as `session::open` does, under the suite with the number `suite`. Refuses a number that is
-/// not listed (2) before all else, at that number, and alters nothing then.
+/// Opens as `session::open` does, under the suite with the number `suite`.
+///
+/// # Errors
+///
+/// 2 before all else for a number that is not listed, at that number; the buffer is then unaltered.
+/// Else the refusals of `session::open`.
 pub fn open(
     suite: u8,
     key: &[u8],
@@ -49,8 +57,8 @@ pub fn open(
     at_listed!(listed, opened(key, header, ciphertext, tag, out))
 }
 
-// The same under a suite that is a type, with all that its call says as one fact for the calls
-// above.
+// The same under a suite that is a type. All that its call says is one fact here, which the calls
+// above hand on.
 fn sealed<S: Suite>(
     key: &[u8],
     header: &[u8],

@@ -1,13 +1,15 @@
-// Opening of a delivered sheet: the message is opened under a suite, and every entry of it is
-// tested.
-ghost use Rattle.std.specs.Prelude.{◌≡◌, ◌≤◌, ◌↔◌, ℕ, List, length, drop, IfErr, IfNone, IfOk, IfSome, IsOk};
+//! Opening of a delivered sheet: the message is opened under a suite, and every entry of it is
+//! tested.
+ghost use Rattle.std.specs.Prelude.{◌≡◌, ◌≤◌, ◌↔◌, ℕ, List, length, drop};
+ghost use Rattle.std.specs.Prelude.{IfErr, IfNone, IfOk, IfSome, IsOk};
 ghost use Rattle.fault.specs.declared.kinds.SessionFault.{SessionFault};
 ghost use Rattle.fault.specs.Refusals.{Refusal, Refuses, sheet_faults};
 ghost use Rattle.session.specs.Calls.{open_checks};
 ghost use Rattle.sheet.specs.Entries.{Item};
 ghost use Rattle.wire.specs.Wire.{parts_of};
 ghost use Rattle.delivery.specs.Told.{not_listed, suite_of};
-ghost use Rattle.delivery.specs.Sheets.{SheetCall, SheetOpened, SheetRefused, SheetSeals, ToldSuite, lifted};
+ghost use Rattle.delivery.specs.Sheets.{SheetCall, SheetOpened, SheetRefused, SheetSeals};
+ghost use Rattle.delivery.specs.Sheets.{ToldSuite, lifted};
 
 use fault::kinds::{Placed, SessionFault, SheetFault};
 use sheet::whole::test;
@@ -16,7 +18,11 @@ use suites::at_listed;
 use suites::listed::Listed;
 use wire::parse::Delivery;
 
-/// The suite with a number. Refuses one that is not listed (2), at that number.
+/// The suite with a number.
+///
+/// # Errors
+///
+/// 2 for a number that is not listed, at that number.
 pub fn told(number: u8) -> Result<Listed, Placed<SheetFault>>
     ensures { ToldSuite number result }
 {
@@ -29,9 +35,12 @@ pub fn told(number: u8) -> Result<Listed, Placed<SheetFault>>
     }
 }
 
-/// Opens a delivered sheet into the front of `out`, and answers how many entries it has. Refuses a
-/// suite that is not listed (2) before all else, at its number, and alters nothing then; else it
-/// does what `open_sheet_as` does.
+/// Opens a delivered sheet into the front of `out`, and answers how many entries it has.
+///
+/// # Errors
+///
+/// 2 before all else for a suite that is not listed, at its number; `out` is then unaltered. Else
+/// the refusals of `open_sheet_as`.
 pub fn open_sheet(d: Delivery<'_>, out: &mut [u8]) -> Result<usize, Placed<SheetFault>>
     ensures unlisted { let p = parts_of d.entry in IfNone (suite_of p.suite)
         (Refuses sheet_faults (lifted (not_listed p.suite)) result × (out.new ≡ out.old)) }
@@ -46,8 +55,10 @@ pub fn open_sheet(d: Delivery<'_>, out: &mut [u8]) -> Result<usize, Placed<Sheet
 /// entries, written and sealed, gives `ciphertext` and `tag`, its sheet goes to the front of `out`.
 /// Answers how many entries it has.
 ///
-/// Refuses as `session::open` does (3 to 9), and then what was sealed and is no sheet, as the test
-/// of a sheet does (10 to 13); where a sheet would have stood, zeros stand then.
+/// # Errors
+///
+/// 3 to 9 as `session::open` refuses. Then 10 to 13 for what was sealed and is no sheet, as the
+/// test of a sheet refuses it; zeros are then where the sheet would be.
 pub fn open_sheet_as<S: Suite>(
     key: &[u8],
     header: &[u8],
@@ -79,7 +90,7 @@ pub fn open_sheet_as<S: Suite>(
     }
 }
 
-// The same, with all that the call says as one fact for `open_sheet`.
+// The same. All that the call says is one fact here, which `open_sheet` hands on.
 fn opened<S: Suite>(
     key: &[u8],
     header: &[u8],
