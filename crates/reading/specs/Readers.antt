@@ -11,10 +11,13 @@ pub record ReaderAt (r : Reader) (es : List Item) : Type 0 where
   pub good : AllGood es
   pub left : drop r.place r.sheet.now ≡ sheet_of es
 
--- One call q on the reader r, which becomes r', answered a: before the replies to any calls from there on, it makes the replies from here on.
+-- One call q on the reader r, which becomes r', answered a: before the replies to any calls from
+-- there on, it makes the replies from here on.
 abbrev pub LeadsOn : (r r' : Reader) (q : Ask) (a : Reply) → List Item → Type 0
 LeadsOn r r' q a es = (es' : List Item) × ReaderAt r' es'
-    × ((qs : List Ask) (rs : List (Option Reply)) → Answered r.sheet.ref_ptr r'.place r'.last es' qs rs → Answered r.sheet.ref_ptr r.place r.last es (q ∷ qs) (Some a ∷ rs))
+    × ((qs : List Ask) (rs : List (Option Reply))
+    → Answered r.sheet.ref_ptr r'.place r'.last es' qs rs
+    → Answered r.sheet.ref_ptr r.place r.last es (q ∷ qs) (Some a ∷ rs))
 
 pub record Replied (r r' : Reader) (q : Ask) (a : Reply) : Type 0 where
   pub same : r'.sheet ≡ r.sheet

@@ -1,5 +1,6 @@
 -- What a reader answers to any list of calls, over the list of entries that is left to it.
-use Rattle.std.specs.Prelude.{◌≡◌, ℕ, suc, ◌+◌, ◌-◌, List, [], ◌∷◌, length, map, take, Some, None, Ok, Err, Option}
+use Rattle.std.specs.Prelude.{◌≡◌, ℕ, suc, ◌+◌, ◌-◌, List, [], ◌∷◌, length, map, take}
+use Rattle.std.specs.Prelude.{Some, None, Ok, Err, Option}
 use Rattle.sheet.specs.Entries.{Item, Lent, bytes, item_of}
 use Rattle.sheet.specs.Calls.{InPlace, last_field}
 use Rattle.reading.specs.declared.script.Ask.{Ask}
@@ -8,27 +9,33 @@ use Rattle.reading.specs.declared.script.Reply.{Reply}
 use Rattle.reading.specs.declared.script.Reply.TheVariants as reply
 use Rattle.reading.specs.declared.script.Call.{Call}
 
--- The replies to calls on a reader at place p of the sheet, which stands at b in memory, that last answered `last` and is left with the
--- entries es. A next call answers the following entry, whose texts are those very parts of the sheet, or the end where none is left. A field
--- call answers that field of the entry last answered, or that it is absent.
-abbrev pub Answered : (b : ℕ × ℕ) (p : ℕ) (last : Option Lent) (es : List Item) → List Ask → List (Option Reply) → Type 0
+-- The replies to calls on a reader at place p of the sheet, which stands at b in memory, that last
+-- answered `last` and is left with the entries es. A next call answers the following entry, whose
+-- texts are those very parts of the sheet, or the end where none is left. A field call answers that
+-- field of the entry last answered, or that it is absent.
+abbrev pub Answered : (b : ℕ × ℕ) (p : ℕ) (last : Option Lent) (es : List Item)
+    → List Ask → List (Option Reply) → Type 0
 Answered b p last es [] [] = Unit {0}
-Answered b p last [] (Next ∷ qs) (r ∷ rs) = (r ≡ Some (reply.Next (Ok None))) × Answered b p last [] qs rs
+Answered b p last [] (Next ∷ qs) (r ∷ rs) =
+    (r ≡ Some (reply.Next (Ok None))) × Answered b p last [] qs rs
 Answered b p last (e ∷ es) (Next ∷ qs) (r ∷ rs) =
-    (x : Lent) × (r ≡ Some (reply.Next (Ok (Some x)))) × (item_of x ≡ e) × InPlace b p (p + length (bytes e)) x
+    (x : Lent) × (r ≡ Some (reply.Next (Ok (Some x)))) × (item_of x ≡ e)
+    × InPlace b p (p + length (bytes e)) x
     × Answered b (p + length (bytes e)) (Some x) es qs rs
-Answered b p last es (Field k ∷ qs) (r ∷ rs) = (r ≡ Some (reply.Field (last_field k last))) × Answered b p last es qs rs
+Answered b p last es (Field k ∷ qs) (r ∷ rs) =
+    (r ≡ Some (reply.Field (last_field k last))) × Answered b p last es qs rs
 Answered b p last es [] (r ∷ rs) = ⊥
 Answered b p last es (q ∷ qs) [] = ⊥
 
--- what calls ask, and what stands in their places for replies
+-- what calls ask, and what is in their places for replies
 abbrev pub asks_of : List Call → List Ask
 asks_of cs = map (λ c. c.ask) cs
 
 abbrev pub replies_of : List Call → List (Option Reply)
 replies_of cs = map (λ c. c.reply) cs
 
--- the entries among replies, in order, and how many of them are the end; how many calls are next calls
+-- the entries among replies, in order, and how many of them are the end; how many calls are next
+-- calls
 abbrev pub entries_in : List (Option Reply) → List Item
 entries_in [] = []
 entries_in (Some (reply.Next (Ok (Some x))) ∷ rs) = item_of x ∷ entries_in rs
@@ -50,9 +57,9 @@ nexts [] = 0
 nexts (Next ∷ qs) = suc (nexts qs)
 nexts (Field k ∷ qs) = nexts qs
 
--- The calls cs became cs', answered by a new reader over the sheet of es, all of them: each as above; the entries answered are the first of
--- es, as many as there were next calls, whatever field calls came between; and the end is answered to the next calls that are left when all
--- of es were.
+-- The calls cs became cs', answered by a new reader over the sheet of es, all of them: each as
+-- above; the entries answered are the first of es, as many as there were next calls, whatever field
+-- calls came between; and the end is answered to the next calls that are left when all of es were.
 pub record AllAnswered (b : ℕ × ℕ) (es : List Item) (cs cs' : List Call) : Type 0 where
   pub asks : asks_of cs' ≡ asks_of cs
   pub each : Answered b 0 None es (asks_of cs) (replies_of cs')

@@ -20,7 +20,8 @@ fn reply<'a>(reader: &mut Reader<'a>, ask: Ask) -> Reply<'a>
 // The calls, on a new reader over the sheet.
 pub(crate) fn answer<'a>(sheet: &'a [u8], calls: &mut [Call<'a>])
     ensures asks { asks_of calls.new ≡ asks_of calls.old }
-    ensures replies { (es : List Item) → AllGood es → sheet.now ≡ sheet_of es → Answered sheet.entry.ref_ptr 0 None es (asks_of calls.old) (replies_of calls.new) }
+    ensures replies { (es : List Item) → AllGood es → sheet.now ≡ sheet_of es
+        → Answered sheet.entry.ref_ptr 0 None es (asks_of calls.old) (replies_of calls.new) }
 {
     let mut reader = Reader::new(sheet);
     for call in calls.iter_mut() {

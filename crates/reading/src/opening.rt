@@ -23,7 +23,7 @@ use wire::parse::Delivery;
 ///
 /// # Errors
 ///
-/// `outcome` has the refusals of `delivery::sheets::open_sheet`. The calls are then as they were.
+/// `outcome` has the refusals of `delivery::sheets::open_sheet`; the calls are then as they were.
 pub fn play<'a>(d: Delivery<'_>, out: &'a mut [u8], calls: &mut [Call<'a>]) -> Played<'a>
     ensures unlisted { let p = parts_of d.entry in IfNone (suite_of p.suite)
         (Refuses sheet_faults (lifted (not_listed p.suite)) result.outcome
@@ -52,7 +52,7 @@ pub fn play<'a>(d: Delivery<'_>, out: &'a mut [u8], calls: &mut [Call<'a>]) -> P
 ///
 /// # Errors
 ///
-/// `outcome` has the refusals of `delivery::sheets::open_sheet_as`. The calls are then as they
+/// `outcome` has the refusals of `delivery::sheets::open_sheet_as`; the calls are then as they
 /// were.
 pub fn play_as<'a, S: Suite>(
     key: &[u8],
@@ -98,7 +98,7 @@ pub fn play_as<'a, S: Suite>(
     }
 }
 
-// The same, with all that the call says as one fact for `play`.
+// The same. All that the call says is one fact here, which `play` hands on.
 fn played<'a, S: Suite>(
     key: &[u8],
     header: &[u8],

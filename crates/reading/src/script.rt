@@ -5,18 +5,18 @@ use sheet::entry::{Entry, Field, Kind};
 /// A call on a reader.
 #[derive(Clone, Copy)]
 pub enum Ask {
-    /// for the following entry, or the sheet's end
+    /// For the following entry, or the sheet's end.
     Next,
-    /// for a field of the entry last answered
+    /// For a field of the entry last answered.
     Field(Kind),
 }
 
 /// What a call answered. Codes and drawings are the very parts of the sheet.
 #[derive(Clone, Copy)]
 pub enum Reply<'a> {
-    /// an entry, or `None` at the sheet's end
+    /// An entry, or `None` at the sheet's end.
     Next(Result<Option<Entry<&'a [u8]>>, Placed<SheetFault>>),
-    /// a field, or `None` where it is absent
+    /// A field, or `None` where it is absent.
     Field(Option<Field<&'a [u8]>>),
 }
 
