@@ -1,5 +1,5 @@
 -- From a parsed delivery and the opening of its sheet to the list that the input delivers.
-use Rattle.std.proofs.Common.{◌≡◌, ℕ, ◌≤◌, Bool, true, false, cond, eqb, ltb, List, length, IsErrAnd, Some, None, Ok, Err, Option, Result, sym, refl, ◌∙◌, subst, ⊎_elim, arith, eq-eqb, true-eqb}
+use Rattle.std.proofs.Common.{◌≡◌, ℕ, ◌≤◌, Bool, true, false, cond, eqb, ltb, List, length, take, IsErrAnd, Some, None, Ok, Err, Option, Result, sym, refl, ◌∙◌, subst, ⊎_elim, arith, eq-eqb, true-eqb}
 use Rattle.std.proofs.lemmas.Bool.Decides.{nat_tests}
 use Rattle.fault.specs.declared.kinds.SessionFault.{SessionFault}
 use Rattle.fault.specs.declared.kinds.SheetFault.{SheetFault}
@@ -10,13 +10,13 @@ use Rattle.fault.specs.Refusals.{Refusal, IsRefusal, HandedOn, sheet_faults, con
 use Rattle.fault.proofs.Refusing.{handed_on}
 use Rattle.poet.specs.Functions.{Functions}
 use Rattle.session.specs.Calls.{open_checks, forged}
-use Rattle.sheet.specs.Entries.{Item}
+use Rattle.sheet.specs.Entries.{Item, AllGood, sheet_of}
 use Rattle.delivery.specs.Told.{suite_of, not_listed}
-use Rattle.delivery.specs.Sheets.{SheetSeals, SheetCall, SheetUnder, lifted}
+use Rattle.delivery.specs.Sheets.{SheetSeals, SheetCall, SheetUnder, SheetOf, lifted}
 use Rattle.delivery.proofs.Opening.{counted, sheet_good}
 use Rattle.wire.specs.declared.parse.Delivery.{Delivery}
 use Rattle.wire.specs.Wire.{Parts, Limits, parts_of, Parsed, ciphertext_limit}
-use Rattle.report.specs.Report.{Delivers, Refused, unlisted, no_body, no_seal, no_sheet, no_delivery, delivery, Judged, raised, within, empty}
+use Rattle.report.specs.Report.{Delivers, DeliversOnly, Refused, unlisted, no_body, no_seal, no_sheet, no_delivery, delivery, Judged, raised, within, empty}
 
 -- of the checks only that of an empty body can fail within the limits
 module _ (p : Parts) (l : Limits p) (o : List ℕ) (lo : ciphertext_limit ≤ length o) where
@@ -48,6 +48,22 @@ module _ (input : List ℕ) (d : Delivery) (parsed : Parsed input (Ok d)) where
       let P : Parts → Type 0 = λ x. (suite_of x.suite ≡ Some D.under) × SheetSeals (D.under x.key) x.header fs x.ciphertext x.tag in
       let q = subst P (parsed.2 D.parts D.limits D.is) (D.listed, D.list) in
       record { under = D.under; listed = q.0; list = q.1 }
+
+  -- an accepted sheet: its list is delivered, and no other
+  pub delivered : (o o' : List ℕ) (k : ℕ) → SheetOf (parts_of d) o o' (Ok k) → (es : List Item) × DeliversOnly input es × AllGood es × (take (length (parts_of d).ciphertext) o' ≡ sheet_of es)
+  delivered o o' k s =
+      let (under, listed, checked, es, opened) = counted (suite_of d.suite) d.suite _ _ _ _ o o' k s in (
+        es,
+        record {
+          delivers = record { parts = parts_of d; limits = parsed.0; is = parsed.1; under = under; listed = listed; list = opened.list };
+          only = λ fs D.
+              let h = here fs D in
+              let q : h.under ≡ under = let x = h.listed in cc in
+              opened.only fs (subst (λ (u : List ℕ → Functions). SheetSeals (u (parts_of d).key) (parts_of d).header fs (parts_of d).ciphertext (parts_of d).tag) q h.list);
+        },
+        sheet_good _ _ es _ _ opened.list,
+        opened.front,
+      )
 
   module _ (o o' : List ℕ) (lo : ciphertext_limit ≤ length o) where
     -- the opening of the sheet, as it answers r
@@ -93,22 +109,8 @@ module _ (input : List ℕ) (d : Delivery) (parsed : Parsed input (Ok d)) where
     refused e (Ok k) h s = absurd h
     refused e (Err f) h s = refused_as e f h s
 
-    -- an accepted one: its list is delivered, and no other
     pub accepted : (k : ℕ) → length o' ≡ length o → Opens (suite_of d.suite) (Ok k) → Judged input o' (Ok (length (parts_of d).ciphertext))
-    accepted k long s =
-        let (under, listed, checked, es, opened) = counted (suite_of d.suite) d.suite _ _ _ _ o o' k s in (
-          es,
-          record {
-            delivers = record { parts = parts_of d; limits = parsed.0; is = parsed.1; under = under; listed = listed; list = opened.list };
-            only = λ fs D.
-                let h = here fs D in
-                let q : h.under ≡ under = let x = h.listed in cc in
-                opened.only fs (subst (λ (u : List ℕ → Functions). SheetSeals (u (parts_of d).key) (parts_of d).header fs (parts_of d).ciphertext (parts_of d).tag) q h.list);
-          },
-          sheet_good _ _ es _ _ opened.list,
-          let r = room in omega arith,
-          opened.front,
-        )
+    accepted k long s = let (es, only, good, front) = delivered o o' k s in (es, only, good, (let r = room in omega arith), front)
 
 -- an input that is no delivery delivers no list
 pub malformed_input : (input o' : List ℕ) (e : Placed ConsoleFault) → Parsed input (Err e) → Judged input o' (Err e)

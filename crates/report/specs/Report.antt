@@ -1,5 +1,6 @@
 -- The report on one delivery, given as bytes: the list of its entries, or its refusal.
-use Rattle.std.specs.Prelude.{◌≡◌, ◌≢◌, ℕ, ◌≤◌, ◌⊎◌, List, [], ◌∷◌, ◌++◌, length, take, Some, None, Ok, Err, codes, decimal, Result}
+use Rattle.std.specs.Prelude.{◌≡◌, ◌≢◌, ℕ, ◌≤◌, ◌⊎◌, List, [], ◌∷◌, ◌++◌, length, take}
+use Rattle.std.specs.Prelude.{Some, None, Ok, Err, codes, decimal, Result}
 use Rattle.fault.specs.declared.kinds.Layer.TheVariants.{Session as SessionLayer}
 use Rattle.fault.specs.declared.kinds.SessionFault.{SessionFault}
 use Rattle.fault.specs.declared.kinds.SessionFault.TheVariants.{Empty}
@@ -19,8 +20,8 @@ use Rattle.delivery.specs.Sheets.{SheetSeals, lifted}
 use Rattle.wire.specs.Wire.{Parts, Limits, wire, malformed}
 use Rattle.report.specs.Lists.{list_of}
 
--- The input is a delivery within its limits, of a listed suite, and the list es of one or more good entries, written and sealed under its key
--- and header, gives its ciphertext and tag.
+-- The input is a delivery within its limits, of a listed suite, and the list es of one or more good
+-- entries, written and sealed under its key and header, gives its ciphertext and tag.
 pub record Delivers (input : List ℕ) (es : List Item) : Type 0 where
   pub parts : Parts
   pub limits : Limits parts
@@ -45,33 +46,43 @@ raised e = record { fault = Sheet e.fault; place = e.place }
 abbrev pub empty : Refusal SessionFault
 empty = refusal Empty 7 SessionLayer 0
 
--- Why the delivery with the parts p is refused with the fault f: no suite has its number, or its ciphertext is empty, or no message seals to its
--- ciphertext and tag, or the message that does is broken as a sheet.
+-- Why the delivery with the parts p is refused with the fault f: no suite has its number, or its
+-- ciphertext is empty, or no message seals to its ciphertext and tag, or the message that does is
+-- broken as a sheet.
 pub data Refused (p : Parts) (f : Placed ConsoleFault) : Type 0 where
-  unlisted : suite_of p.suite ≡ None → IsRefusal console_faults (within (not_listed p.suite)) f → Refused p f
-  no_body : (under : List ℕ → Functions) → suite_of p.suite ≡ Some under → length p.ciphertext ≡ 0 → IsRefusal console_faults (within empty) f → Refused p f
-  no_seal : (under : List ℕ → Functions) → suite_of p.suite ≡ Some under → ((M : List ℕ) → Seals (under p.key) p.header M p.ciphertext p.tag → ⊥)
+  unlisted : suite_of p.suite ≡ None
+      → IsRefusal console_faults (within (not_listed p.suite)) f → Refused p f
+  no_body : (under : List ℕ → Functions) → suite_of p.suite ≡ Some under
+      → length p.ciphertext ≡ 0 → IsRefusal console_faults (within empty) f → Refused p f
+  no_seal : (under : List ℕ → Functions) → suite_of p.suite ≡ Some under
+      → ((M : List ℕ) → Seals (under p.key) p.header M p.ciphertext p.tag → ⊥)
       → IsRefusal console_faults (within (forged (length p.ciphertext))) f → Refused p f
-  no_sheet : (under : List ℕ → Functions) → suite_of p.suite ≡ Some under → (M : List ℕ) → Seals (under p.key) p.header M p.ciphertext p.tag
+  no_sheet : (under : List ℕ → Functions) → suite_of p.suite ≡ Some under
+      → (M : List ℕ) → Seals (under p.key) p.header M p.ciphertext p.tag
       → (e : Placed SheetFault) → Broken M e → f ≡ raised e → Refused p f
 
 -- Why an input is refused: it is no delivery within the limits, or it is one that is refused.
 pub data RefusedInput (input : List ℕ) (f : Placed ConsoleFault) : Type 0 where
-  no_delivery : ((p : Parts) → Limits p → wire p ≢ input) → IsRefusal console_faults (malformed (length input)) f → RefusedInput input f
+  no_delivery : ((p : Parts) → Limits p → wire p ≢ input)
+      → IsRefusal console_faults (malformed (length input)) f → RefusedInput input f
   delivery : (p : Parts) → Limits p → wire p ≡ input → Refused p f → RefusedInput input f
 
--- What judging an input answers: n bytes of the buffer o' are the sheet of the list that it delivers; or why it is refused, and then it
--- delivers no list.
+-- What judging an input answers: n bytes of the buffer o' are the sheet of the list that it
+-- delivers; or why it is refused, and then it delivers no list.
 abbrev pub Judged : (input o' : List ℕ) → Result ℕ (Placed ConsoleFault) → Type 0
-Judged input o' (Ok n) = (es : List Item) × DeliversOnly input es × AllGood es × (n ≤ length o') × (take n o' ≡ sheet_of es)
+Judged input o' (Ok n) =
+    (es : List Item) × DeliversOnly input es × AllGood es
+    × (n ≤ length o') × (take n o' ≡ sheet_of es)
 Judged input o' (Err f) = ((es : List Item) → Delivers input es → ⊥) × RefusedInput input f
 
 -- the line of a refusal
 abbrev pub refusal_line : Placed ConsoleFault → List ℕ
 refusal_line f = codes "refused " ++ (decimal (console_number f.fault) ++ 10 ∷ [])
 
--- What is printed for an input: the lines of the list that it delivers, or the line of its refusal where it delivers none.
+-- What is printed for an input: the lines of the list that it delivers, or the line of its refusal
+-- where it delivers none.
 abbrev pub Printed : (input text : List ℕ) → Type 0
 Printed input text =
     ((es : List Item) × DeliversOnly input es × (text ≡ list_of es))
-    ⊎ ((f : Placed ConsoleFault) × ((es : List Item) → Delivers input es → ⊥) × RefusedInput input f × (text ≡ refusal_line f))
+    ⊎ ((f : Placed ConsoleFault) × ((es : List Item) → Delivers input es → ⊥)
+    × RefusedInput input f × (text ≡ refusal_line f))

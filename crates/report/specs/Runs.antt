@@ -5,10 +5,15 @@ use Rattle.streams.specs.Streams.{ReadsUpTo, WritesFront}
 use Rattle.wire.specs.Wire.{input_limit}
 use Rattle.report.specs.Report.{Printed}
 
--- The input was read, as far as one byte past the longest delivery, and what is printed for it was written.
--- A run that failed wrote a front of what is printed for the input that it read; or it failed at reading, and wrote nothing.
-abbrev pub Ran : {E : Type 0} (left left' held held' : Option (List ℕ)) → Result (Unit {0}) E → Type 0
-Ran left left' held held' (Ok x) = (input text : List ℕ) × ReadsUpTo input_limit left left' input × Printed input text × Appends held held' text
+-- The input was read, as far as one byte past the longest delivery, and what is printed for it was
+-- written. A run that failed wrote a front of what is printed for the input that it read; or it
+-- failed at reading, and wrote nothing.
+abbrev pub Ran : {E : Type 0} (left left' held held' : Option (List ℕ))
+    → Result (Unit {0}) E → Type 0
+Ran left left' held held' (Ok x) =
+    (input text : List ℕ) × ReadsUpTo input_limit left left' input
+    × Printed input text × Appends held held' text
 Ran left left' held held' (Err e) =
-    ((input text : List ℕ) × ReadsUpTo input_limit left left' input × Printed input text × WritesFront held held' text)
+    ((input text : List ℕ) × ReadsUpTo input_limit left left' input
+    × Printed input text × WritesFront held held' text)
     ⊎ ((input : List ℕ) × Consumes left left' input × Keeps held held')

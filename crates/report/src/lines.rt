@@ -19,7 +19,9 @@ fn untested() -> Error {
 
 // Writes the line of an entry.
 fn write_line<W: Write>(output: &mut W, entry: Entry<&[u8]>) -> io::Result<()>
-    ensures { Good (item_of entry.entry) → Wrote (W.contents output.old) (W.contents output.new) (line_of (item_of entry.entry)) result }
+    ensures { Good (item_of entry.entry)
+        → Wrote (W.contents output.old) (W.contents output.new)
+        (line_of (item_of entry.entry)) result }
 {
     let mut row = [0; 70];
     match line(entry, &mut row, 0) {
@@ -30,7 +32,8 @@ fn write_line<W: Write>(output: &mut W, entry: Entry<&[u8]>) -> io::Result<()>
 
 // Writes the lines of all entries of a sheet.
 pub(crate) fn write_lines<W: Write>(output: &mut W, sheet: &[u8]) -> io::Result<()>
-    ensures { (es : List Item) → AllGood es → sheet.now ≡ sheet_of es → Wrote (W.contents output.old) (W.contents output.new) (list_of es) result }
+    ensures { (es : List Item) → AllGood es → sheet.now ≡ sheet_of es
+        → Wrote (W.contents output.old) (W.contents output.new) (list_of es) result }
 {
     let mut reader = Reader::new(sheet);
     loop {

@@ -13,7 +13,8 @@ use std::io::{Read, Write};
 use streams::{fill, put};
 use wire::parse::{CIPHERTEXT_LIMIT, INPUT_LIMIT, parse};
 
-// Parses a delivery and opens its sheet into the front of a buffer, and answers how many bytes the sheet has.
+// Parses a delivery and opens its sheet into the front of a buffer, and answers how many bytes the
+// sheet has.
 fn judge(input: &[u8], opened: &mut [u8]) -> Result<usize, Placed<ConsoleFault>>
     requires { CIPHERTEXT_LIMIT ≤ length opened.old }
     ensures { Judged input.now opened.new result }
@@ -23,13 +24,15 @@ fn judge(input: &[u8], opened: &mut [u8]) -> Result<usize, Placed<ConsoleFault>>
     Ok(delivery.ciphertext.len())
 }
 
-/// Writes the lines of the list that the input delivers, or the line of its refusal. Nothing is written before the whole sheet is judged.
+/// Writes the lines of the list that the input delivers, or the line of its refusal. Nothing is
+/// written before the whole sheet is judged.
 ///
 /// # Errors
 ///
 /// What the writer fails with. A front of the text is written then.
 pub fn print<W: Write>(input: &[u8], output: &mut W) -> io::Result<()>
-    ensures { (text : List ℕ) × Printed input.now text × Wrote (W.contents output.old) (W.contents output.new) text result }
+    ensures { (text : List ℕ) × Printed input.now text
+        × Wrote (W.contents output.old) (W.contents output.new) text result }
 {
     let mut opened = [0; CIPHERTEXT_LIMIT];
     match judge(input, &mut opened) {
@@ -38,13 +41,16 @@ pub fn print<W: Write>(input: &[u8], output: &mut W) -> io::Result<()>
     }
 }
 
-/// Reads an input and writes what is printed for it. No more than 20,520 bytes are read, one more than the longest delivery has.
+/// Reads an input and writes what is printed for it. No more than `INPUT_LIMIT` bytes are read, one
+/// more than the longest delivery has.
 ///
 /// # Errors
 ///
-/// What the reader fails with, and then nothing is written; or what the writer fails with, and then a front of the text is written.
+/// What the reader fails with, and then nothing is written; or what the writer fails with, and then
+/// a front of the text is written.
 pub fn run<R: Read, W: Write>(reader: &mut R, writer: &mut W) -> io::Result<()>
-    ensures { Ran (R.remaining reader.old) (R.remaining reader.new) (W.contents writer.old) (W.contents writer.new) result }
+    ensures { Ran (R.remaining reader.old) (R.remaining reader.new)
+        (W.contents writer.old) (W.contents writer.new) result }
 {
     let mut input = [0; INPUT_LIMIT];
     let len = fill(reader, &mut input)?;
