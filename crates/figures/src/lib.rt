@@ -1,7 +1,7 @@
-// Known figures, as one theorem that follows from the definitions.
-//
-// `figures_stands` does nothing: its contract is the theorem, and the crate is refused without the
-// proof.
+//! Known figures, as one theorem that follows from the definitions.
+//!
+//! `figures_stands` does nothing: its contract is the theorem, and the crate is refused without the
+//! proof.
 #![tactic(auto)]
 
 ghost use Rattle.figures.specs.Figures.{Figures};
