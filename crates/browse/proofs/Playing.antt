@@ -1,22 +1,19 @@
 -- From a parsed delivery and the playing of calls to the text that is shown for the input.
-use Rattle.std.proofs.Common.{◌≡◌, ℕ, ◌≤◌, List, length, Some, None, Ok, Err, IfOk, Result, refl, subst, inl, inr}
+use Rattle.std.proofs.Common.{◌≡◌, ℕ, ◌≤◌, List, length, None, Ok, Err, IfOk, Result, refl, subst, inl, inr}
 use Rattle.fault.specs.declared.kinds.SheetFault.{SheetFault}
 use Rattle.fault.specs.declared.kinds.ConsoleFault.{ConsoleFault}
 use Rattle.fault.specs.declared.kinds.ConsoleFault.TheVariants.{Sheet}
 use Rattle.fault.specs.declared.kinds.Placed.{Placed}
 use Rattle.fault.specs.Refusals.{HandedOn, sheet_faults, console_faults}
-use Rattle.poet.specs.Functions.{Functions}
 use Rattle.sheet.specs.Entries.{Item}
-use Rattle.delivery.specs.Told.{suite_of}
-use Rattle.delivery.specs.Sheets.{SheetOf, SheetSeals}
-use Rattle.delivery.proofs.Opening.{counted}
+use Rattle.delivery.specs.Sheets.{SheetOf}
 use Rattle.wire.specs.declared.parse.Delivery.{Delivery}
 use Rattle.wire.specs.Wire.{Parts, parts_of, Parsed, ciphertext_limit}
 use Rattle.reading.specs.declared.script.Call.{Call}
 use Rattle.reading.specs.Replies.{AllAnswered, asks_of, replies_of}
 use Rattle.reading.specs.Deliveries.{Holds}
 use Rattle.report.specs.Report.{Delivers}
-use Rattle.report.proofs.Delivering.{malformed_input, refused}
+use Rattle.report.proofs.Delivering.{delivered, malformed_input, refused}
 use Rattle.browse.specs.Shown.{refusal_text, replies_text}
 use Rattle.browse.specs.Browsing.{Browsed}
 use Rattle.browse.proofs.Showing.{shown_is}
@@ -35,18 +32,10 @@ module _ (input : List ℕ) (d : Delivery) (parsed : Parsed input (Ok d)) (o o' 
   holds : (es : List Item) → Delivers input es → Holds (parts_of d) es
   holds es D = subst (λ (p : Parts). Holds p es) (parsed.2 D.parts D.limits D.is) (record { under = D.under; listed = D.listed; list = D.list })
 
-  -- where one list alone is sealed in these parts, the input delivers no other
-  only_by : (under : List ℕ → Functions) → suite_of d.suite ≡ Some under → (es : List Item) → ((fs : List Item) → SheetSeals (under (parts_of d).key) (parts_of d).header fs (parts_of d).ciphertext (parts_of d).tag → fs ≡ es) → (fs : List Item) → Delivers input fs → fs ≡ es
-  only_by under listed es only fs D =
-      let p = parts_of d in
-      let h = holds fs D in
-      let q : h.under ≡ under = let x = h.listed in cc in
-      only fs (subst (λ (u : List ℕ → Functions). SheetSeals (u p.key) p.header fs p.ciphertext p.tag) q h.list)
-
   -- an accepted sheet, with the replies to the calls
   pub played : (k : ℕ) → r ≡ Ok k → (b : ℕ × ℕ) (cs cs' : List Call) → IfOk r (λ n. (es : List Item) → Holds (parts_of d) es → AllAnswered b es cs cs') → Browsed input (asks_of cs) (replies_text (replies_of cs'))
   played k is b cs cs' answered =
       let p = parts_of d in
-      let (under, listed, checked, es, opened) = counted (suite_of p.suite) p.suite p.key p.header p.ciphertext p.tag o o' k (subst (SheetOf p o o') is s) in
-      let all = subst (λ (x : Result ℕ (Placed SheetFault)). IfOk x (λ n. (fs : List Item) → Holds p fs → AllAnswered b fs cs cs')) is answered es (record { under = under; listed = listed; list = opened.list }) in
-      inl (es, record { delivers = record { parts = p; limits = parsed.0; is = parsed.1; under = under; listed = listed; list = opened.list }; only = only_by under listed es opened.only }, shown_is (asks_of cs) (replies_of cs') b 0 None es all.each)
+      let (es, only, good, front) = delivered input d parsed o o' k (subst (SheetOf p o o') is s) in
+      let all = subst (λ (x : Result ℕ (Placed SheetFault)). IfOk x (λ n. (fs : List Item) → Holds p fs → AllAnswered b fs cs cs')) is answered es (holds es only.delivers) in
+      inl (es, only, shown_is (asks_of cs) (replies_of cs') b 0 None es all.each)
