@@ -6,9 +6,12 @@
 mod deliveries;
 mod rows;
 
+use anyhow::anyhow;
 use deliveries::deliveries;
 use hexits::Hex;
 use rows::show;
+use std::alloc::Global;
+use std::io::Write;
 use std::{env, io};
 use suite::{Permutation, Suite};
 use suites::ciphers::{Aes128, KeyedHash};
@@ -32,53 +35,61 @@ const MESSAGE: [u8; 33] = [
 
 const HELP: &'static str =
     "vectors prints the figures of the format's page: seals under each listed suite with their
-intermediate values, and deliveries with what is printed for them. It takes no arguments.
+intermediate values, and deliveries with what is printed for them. It takes no arguments but --help.
 ";
 
-fn main(rt: HostRuntime) -> io::Result<()> {
-    if env::args(&rt)?.nth(1).is_some() {
-        return print!(rt; "{HELP}");
+fn main(rt: HostRuntime) -> anyhow::Result<()> {
+    let word = env::args(&rt)?.nth(1);
+    match word.as_deref() {
+        None => run(rt.alloc(), &mut rt.stdout())?,
+        Some("--help") => print!(rt; "{HELP}")?,
+        Some(word) => return Err(anyhow!("{word}: vectors takes no arguments but --help")),
     }
-    head(&rt, Shaft::NUMBER)?;
+    Ok(())
+}
+
+/// Writes the figures of every suite, and then the deliveries.
+fn run<W: Write>(alloc: Global, writer: &mut W) -> anyhow::Result<()> {
+    head(writer, Shaft::NUMBER)?;
     let delivered = Aes128::under(KEY);
-    value(&rt, "K", &delivered.encrypt(big_endian(1)))?;
-    value(&rt, "K_F", &delivered.encrypt(big_endian(2)))?;
-    seals::<Shaft>(&rt)?;
-    submission::<PoetAesFour>(&rt)?;
-    submission::<PoetAesTen>(&rt)?;
-    head(&rt, Mirror::NUMBER)?;
-    seals::<Mirror>(&rt)?;
-    deliveries(&rt)
+    value(writer, "K", &delivered.encrypt(big_endian(1)))?;
+    value(writer, "K_F", &delivered.encrypt(big_endian(2)))?;
+    seals::<Shaft, W>(writer)?;
+    submission::<PoetAesFour, W>(writer)?;
+    submission::<PoetAesTen, W>(writer)?;
+    head(writer, Mirror::NUMBER)?;
+    seals::<Mirror, W>(writer)?;
+    deliveries(alloc, writer)
 }
 
-fn submission<S: Suite>(rt: &HostRuntime) -> io::Result<()> {
-    head(rt, S::NUMBER)?;
+fn submission<S: Suite, W: Write>(writer: &mut W) -> io::Result<()> {
+    head(writer, S::NUMBER)?;
     let keys = Keys::new::<Aes128>(KEY);
-    value(rt, "K", &keys.cipher)?;
-    value(rt, "L", &keys.mask)?;
-    value(rt, "K_F", &keys.chain)?;
-    seals::<S>(rt)
+    value(writer, "K", &keys.cipher)?;
+    value(writer, "L", &keys.mask)?;
+    value(writer, "K_F", &keys.chain)?;
+    seals::<S, W>(writer)
 }
 
-fn head(rt: &HostRuntime, suite: u8) -> io::Result<()> {
-    println!(rt; "suite {suite}")?;
-    value(rt, "key", &KEY)
+fn head<W: Write>(writer: &mut W, suite: u8) -> io::Result<()> {
+    writeln!(writer, "suite {suite}")?;
+    value(writer, "key", &KEY)
 }
 
 // Messages and headers of less than a block, of whole blocks, and of a byte more.
-fn seals<S: Suite>(rt: &HostRuntime) -> io::Result<()> {
-    show::<S>(rt, &[], &MESSAGE[..1])?;
-    show::<S>(rt, &HEADER[..1], &MESSAGE[..16])?;
-    show::<S>(rt, &HEADER[..16], &MESSAGE[..17])?;
-    show::<S>(rt, &HEADER, &MESSAGE)?;
-    println!(rt;)
+fn seals<S: Suite, W: Write>(writer: &mut W) -> io::Result<()> {
+    show::<S, W>(writer, &[], &MESSAGE[..1])?;
+    show::<S, W>(writer, &HEADER[..1], &MESSAGE[..16])?;
+    show::<S, W>(writer, &HEADER[..16], &MESSAGE[..17])?;
+    show::<S, W>(writer, &HEADER, &MESSAGE)?;
+    writeln!(writer)
 }
 
 // A value behind its name; `-` stands for no bytes.
-fn value(rt: &HostRuntime, name: &str, bytes: &[u8]) -> io::Result<()> {
+fn value<W: Write>(writer: &mut W, name: &str, bytes: &[u8]) -> io::Result<()> {
     if bytes.is_empty() {
-        println!(rt; "{name:<11}-")
+        writeln!(writer, "{name:<11}-")
     } else {
-        println!(rt; "{name:<11}{}", Hex(bytes))
+        writeln!(writer, "{name:<11}{}", Hex(bytes))
     }
 }

@@ -5,14 +5,19 @@ use block::{complete, xor};
 use hexits::Hex;
 use session::seal;
 use std::io;
+use std::io::Write;
 use suite::{ChainingHash, HeaderDigest, Keyed, Permutation, Suite};
 
 // The longest message that is shown has three blocks.
 const MOST: usize = 48;
 
-/// Prints header, message and rows of one seal, and then its ciphertext and tag as `seal` gives
+/// Writes header, message and rows of one seal, and then its ciphertext and tag as `seal` gives
 /// them.
-pub(crate) fn show<S: Suite>(rt: &HostRuntime, header: &[u8], message: &[u8]) -> io::Result<()> {
+pub(crate) fn show<S: Suite, W: Write>(
+    writer: &mut W,
+    header: &[u8],
+    message: &[u8],
+) -> io::Result<()> {
     let Keyed {
         permutation,
         hash,
@@ -22,17 +27,17 @@ pub(crate) fn show<S: Suite>(rt: &HostRuntime, header: &[u8], message: &[u8]) ->
     let tau = digest.finish();
     let mut x = tau;
     let mut y = xor(tau, S::encode(1));
-    println!(rt;)?;
-    value(rt, "header", header)?;
-    value(rt, "tau", &tau)?;
-    value(rt, "Y_0", &y)?;
-    value(rt, "message", message)?;
+    writeln!(writer)?;
+    value(writer, "header", header)?;
+    value(writer, "tau", &tau)?;
+    value(writer, "Y_0", &y)?;
+    value(writer, "message", message)?;
 
     let (front, last) = message.split_at(message.len().saturating_sub(1) / 16 * 16);
     for (i, block) in (1..MOST / 16).zip(front.chunks_exact(16)) {
         x = xor(hash.hash(x), complete(block, &[0; 16]));
         y = permutation.encrypt(x);
-        row(rt, i, &x, &y)?;
+        row(writer, i, &x, &y)?;
     }
     let mask = permutation.encrypt(S::encode(8 * message.len().min(MOST) as u64));
     let filled = complete(last, &tau);
@@ -42,22 +47,22 @@ pub(crate) fn show<S: Suite>(rt: &HostRuntime, header: &[u8], message: &[u8]) ->
     let given = xor(xor(over, y), mask);
     let inner = permutation.encrypt(xor(hash.hash(x), tau));
     let z = xor(xor(hash.hash(y), inner), tau);
-    value(rt, "S", &mask)?;
-    value(rt, "M*", &filled)?;
-    row(rt, front.len() / 16 + 1, &x, &y)?;
-    value(rt, "C*", &given)?;
-    value(rt, "Z", &z)?;
+    value(writer, "S", &mask)?;
+    value(writer, "M*", &filled)?;
+    row(writer, front.len() / 16 + 1, &x, &y)?;
+    value(writer, "C*", &given)?;
+    value(writer, "Z", &z)?;
 
     let mut out = [0; MOST];
     let mut tag = [0; 16];
     match seal::<S>(&KEY, header, message, &mut out, &mut tag) {
-        Ok(n) => value(rt, "ciphertext", &out[..n.min(MOST)])?,
-        Err(fault) => println!(rt; "{fault}")?,
+        Ok(n) => value(writer, "ciphertext", &out[..n.min(MOST)])?,
+        Err(fault) => writeln!(writer, "{fault}")?,
     }
-    value(rt, "tag", &tag)
+    value(writer, "tag", &tag)
 }
 
-fn row(rt: &HostRuntime, i: usize, x: &[u8; 16], y: &[u8; 16]) -> io::Result<()> {
-    println!(rt; "X_{i:<9}{}", Hex(x))?;
-    println!(rt; "Y_{i:<9}{}", Hex(y))
+fn row<W: Write>(writer: &mut W, i: usize, x: &[u8; 16], y: &[u8; 16]) -> io::Result<()> {
+    writeln!(writer, "X_{i:<9}{}", Hex(x))?;
+    writeln!(writer, "Y_{i:<9}{}", Hex(y))
 }
