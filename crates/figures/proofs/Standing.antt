@@ -2,7 +2,7 @@
 use Rattle.std.proofs.Common.{◌≡◌, ℕ, ◌+◌, T, leb, List, [], length, replicate, Ok, refl, ap, ◌∙◌, ap₂, lit<, lit≤}
 use Rattle.block.specs.Bytes.{Bytes, Block, ◌⊕◌}
 use Rattle.poet.specs.Seal.{Limits, Seals}
-use Rattle.poet.specs.Rows.{takes, gives, next, rows, last, cut, start, length_mask, closing, sealing, cipher, tag}
+use Rattle.poet.specs.Rows.{takes, gives, next, rows, last, cut, start, length_mask, closing, sealed_rows, ciphertext, tag}
 use Rattle.block.proofs.Xors.{bytes_nil, bytes_replicate}
 use Rattle.poet.proofs.Computing.{computing_law}
 use Rattle.forms.specs.Filling.{padded, filled}
@@ -24,7 +24,7 @@ some_key = record { long = refl; bytes = bytes_replicate 16 0 (lit< tt) }
 limits : (M : List ℕ) → Bytes M → T (leb 1 (length M)) → T (leb (length M) 1048576) → Limits [] M
 limits M b some most = record { header_bytes = bytes_nil; header_most = lit≤ tt; bytes = b; some = lit≤ some; most = lit≤ most }
 
-computed : (key M C T : List ℕ) → Limits [] M → C ≡ cipher (mirror key) [] M → T ≡ tag (mirror key) [] M → Seals (mirror key) [] M C T
+computed : (key M C T : List ℕ) → Limits [] M → C ≡ ciphertext (mirror key) [] M → T ≡ tag (mirror key) [] M → Seals (mirror key) [] M C T
 computed key M C T l c t = (computing_law (mirror key) (listed_lawful Mirror (replicate 16 0) some_key) [] M C T).0 (record { limits = l; cipher_is = c; tag_is = t })
 
 doors_bytes : Bytes (bytes doors)
@@ -35,7 +35,7 @@ body_figure : (held brought : ℕ) → BodyFigure held brought (given_of (held +
 body_figure held brought n s h b free = ap (λ o. Body (answered o (given_of (held_of n + length s.bytes.now)))) free ∙ ap₂ (λ (x y : ℕ). Body (Ok (given_of (x + y)))) h b
 
 pub figures : Figures
-unfolding ◌⊕◌ padded filled chain_x chain_y chained takes gives next rows last cut start length_mask closing sealing row_of
+unfolding ◌⊕◌ padded filled chain_x chain_y chained takes gives next rows last cut start length_mask closing sealed_rows row_of
 figures = record {
   digest = λ key. refl;
   one_byte = λ key. computed key _ _ _ (limits _ (bytes_replicate 1 0x41 (lit< tt)) tt tt) refl refl;

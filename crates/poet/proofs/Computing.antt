@@ -4,7 +4,7 @@ use Rattle.std.proofs.lemmas.Bool.{lt-ltb, le-ltb, cond-true, cond-false}
 use Rattle.block.specs.Bytes.{Block, ◌⊕◌}
 use Rattle.poet.specs.Functions.{Functions, Lawful}
 use Rattle.poet.specs.Seal.{Limits, Rows, Seals}
-use Rattle.poet.specs.Rows.{State, last, cut, whole, last_length, length_mask, closing, sealing, cipher, tag, Computed}
+use Rattle.poet.specs.Rows.{State, last, cut, whole, last_length, length_mask, closing, sealed_rows, ciphertext, tag, Computed}
 use Rattle.poet.specs.Laws.{ComputingLaw}
 use Rattle.block.proofs.Xors.{block_xor, block_comm, xor_swap, bytes_append, bytes_take, bytes_drop}
 use Rattle.poet.proofs.Rows.{Kept}
@@ -98,16 +98,16 @@ module _ (f : Functions) (L : Lawful f) (h m : List ℕ) (lim : Limits h m) wher
       ap (λ (u : List ℕ). u ⊕ f.dig h)
       (block_comm _ _ (L.permutes.enc_block _ (block_xor _ _ (L.chain_block _ x_end_block) dig_block)) (L.chain_block _ y_end_block))
 
-  cipher_is : cipher f h m ≡ (at (whole m)).out ++ take (last_length m) end.out
-  unfolding sealing cut end tail
+  cipher_is : ciphertext f h m ≡ (at (whole m)).out ++ take (last_length m) end.out
+  unfolding sealed_rows cut end tail
   cipher_is = refl
 
   tag_is : tag f h m ≡ drop (last_length m) end.out ++ take (last_length m) (closing f (f.dig h) end.x end.y)
-  unfolding sealing cut end tail
+  unfolding sealed_rows cut end tail
   tag_is = refl
 
   -- from the computed seal to the equations
-  module _ (c t : List ℕ) (ce : c ≡ cipher f h m) (te : t ≡ tag f h m) where
+  module _ (c t : List ℕ) (ce : c ≡ ciphertext f h m) (te : t ≡ tag f h m) where
     abbrev X : ℕ → List ℕ
     X = upto (whole m) (λ i. (at i).x) end.x
 
@@ -147,7 +147,7 @@ module _ (f : Functions) (L : Lawful f) (h m : List ℕ) (lim : Limits h m) wher
     end_out : end.out ≡ f.chain (Y (whole m)) ⊕ Y (suc (whole m)) ⊕ length_mask f (length m)
     end_out = out_end_is ∙ ap₂ (λ (u v : List ℕ). f.chain u ⊕ v ⊕ length_mask f (length m)) at_end.1 end_y
 
-    from_cipher : c ≡ cipher f h m
+    from_cipher : c ≡ ciphertext f h m
     from_cipher =
         sym (
         cipher_is ∙ ap₂ (λ (u v : List ℕ). u ++ take (last_length m) v) at_end.2 end_out ∙ ap (λ (u : List ℕ). take (16 * whole m) c ++ u) (sym E.out)

@@ -3,7 +3,7 @@ use Rattle.std.proofs.Common.{◌≡◌, ℕ, ◌+◌, ◌-◌, ◌*◌, ◌≤�
 use Rattle.block.specs.Bytes.{Bytes, Block}
 use Rattle.poet.specs.Functions.{Functions, Lawful}
 use Rattle.poet.specs.Seal.{Limits}
-use Rattle.poet.specs.Rows.{AllRows, turned, whole, last_length, start, length_mask, closing, sealing, opening, cipher, tag, opened, Computed, Accepts}
+use Rattle.poet.specs.Rows.{AllRows, turned, whole, last_length, start, length_mask, closing, sealed_rows, opened_rows, ciphertext, tag, opened, Computed, Accepts}
 use Rattle.block.proofs.Xors.{block_xor, bytes_nil, bytes_append, bytes_take}
 use Rattle.poet.proofs.Rows.{Kept}
 use Rattle.poet.proofs.Turn.{Ways, turn, Facts, facts}
@@ -58,28 +58,28 @@ module _ (f : Functions) (L : Lawful f) where
 
   -- what was sealed is opened
   pub opens : (h m c t : List ℕ) → Computed f h m c t
-      → opening f h c t ≡ record { out = m; rest = take (16 - last_length m) (f.dig h); x = (sealing f h m).y; y = (sealing f h m).x }
-  unfolding sealing opening
+      → opened_rows f h c t ≡ record { out = m; rest = take (16 - last_length m) (f.dig h); x = (sealed_rows f h m).y; y = (sealed_rows f h m).x }
+  unfolding sealed_rows opened_rows
   opens h m c t s =
       let F = sealed h m s.limits in
       let lc : length c ≡ length m = ap length s.cipher_is ∙ F.long in
-      let tl : take (16 - last_length m) t ≡ (sealing f h m).rest = rw s.tag_is (take_at (sealing f h m).rest _ (16 - last_length m) (omega (arith, F.rest_long))) in
+      let tl : take (16 - last_length m) t ≡ (sealed_rows f h m).rest = rw s.tag_is (take_at (sealed_rows f h m).rest _ (16 - last_length m) (omega (arith, F.rest_long))) in
       rw (lc, tl, s.cipher_is) F.turns
 
   -- what was opened is sealed
   seals : (h c t : List ℕ) → Accepts f h c t
-      → sealing f h (opened f h c t) ≡ record { out = c; rest = take (16 - last_length c) t; x = (opening f h c t).y; y = (opening f h c t).x }
-  unfolding sealing opening start
+      → sealed_rows f h (opened f h c t) ≡ record { out = c; rest = take (16 - last_length c) t; x = (opened_rows f h c t).y; y = (opened_rows f h c t).x }
+  unfolding sealed_rows opened_rows start
   seals h c t s =
       let F = unsealed h c t s.limits s.tag_block in
       rw (F.long, ← s.fill) F.turns
 
   pub opened_length : (h c t : List ℕ) → Limits h c → Block t → length (opened f h c t) ≡ length c
-  unfolding opening
+  unfolding opened_rows
   opened_length h c t l bt = (unsealed h c t l bt).long
 
   pub opened_bytes : (h c t : List ℕ) → Limits h c → Block t → Bytes (opened f h c t)
-  unfolding opening
+  unfolding opened_rows
   opened_bytes h c t l bt = (unsealed h c t l bt).bytes
 
   pub accepted : (h c t : List ℕ) → Accepts f h c t → Computed f h (opened f h c t) c t
@@ -93,7 +93,7 @@ module _ (f : Functions) (L : Lawful f) where
           some = omega (arith, s.limits.some);
           most = omega (arith, s.limits.most);
         };
-        cipher_is = rw (seals h c t s, cipher);
+        cipher_is = rw (seals h c t s, ciphertext);
         tag_is = rw (seals h c t s, tag, l, ← s.check, take-append-drop (16 - last_length c) t);
       }
 
@@ -102,30 +102,30 @@ module _ (f : Functions) (L : Lawful f) where
     F = sealed h m s.limits
 
     pub cipher_length : length c ≡ length m
-    unfolding sealing
+    unfolding sealed_rows
     cipher_length = ap length s.cipher_is ∙ F.long
 
     cipher_bytes : Bytes c
-    unfolding sealing
+    unfolding sealed_rows
     cipher_bytes = rw s.cipher_is F.bytes
 
-    rest_long : last_length m + length (sealing f h m).rest ≡ 16
-    unfolding sealing
+    rest_long : last_length m + length (sealed_rows f h m).rest ≡ 16
+    unfolding sealed_rows
     rest_long = F.rest_long
 
-    rest_bytes : Bytes (sealing f h m).rest
-    unfolding sealing
+    rest_bytes : Bytes (sealed_rows f h m).rest
+    unfolding sealed_rows
     rest_bytes = F.rest_bytes
 
-    z_block : Block (closing f (f.dig h) (sealing f h m).x (sealing f h m).y)
-    unfolding sealing
+    z_block : Block (closing f (f.dig h) (sealed_rows f h m).x (sealed_rows f h m).y)
+    unfolding sealed_rows
     z_block = closing_block _ _ _ (L.dig_block h s.limits.header_bytes) F.x_block F.y_block
 
     tag_block : Block t
     tag_block =
-        let z : List ℕ = closing f (f.dig h) (sealing f h m).x (sealing f h m).y in
+        let z : List ℕ = closing f (f.dig h) (sealed_rows f h m).x (sealed_rows f h m).y in
         rw s.tag_is record {
-          long = omega (arith, length-append (sealing f h m).rest (take (last_length m) z), length-take (last_length m) z, z_block.long, rest_long, ends_most m);
+          long = omega (arith, length-append (sealed_rows f h m).rest (take (last_length m) z), length-take (last_length m) z, z_block.long, rest_long, ends_most m);
           bytes = bytes_append _ _ rest_bytes (bytes_take (last_length m) z z_block.bytes);
         }
 
@@ -142,7 +142,7 @@ module _ (f : Functions) (L : Lawful f) where
           };
           tag_block = tag_block;
           fill = rw (opens h m c t s, l);
-          check = rw (opens h m c t s, l, s.tag_is) (drop_at (sealing f h m).rest _ (16 - last_length m) (omega (arith, rest_long)));
+          check = rw (opens h m c t s, l, s.tag_is) (drop_at (sealed_rows f h m).rest _ (16 - last_length m) (omega (arith, rest_long)));
         }
 
     pub opened_is : opened f h c t ≡ m

@@ -3,7 +3,7 @@ use Rattle.std.proofs.Common.{◌≡◌, ℕ, ◌*◌, ◌<◌, ◌≤◌, List,
 use Rattle.block.specs.Bytes.{Bytes, Block}
 use Rattle.poet.specs.Functions.{Functions, Lawful}
 use Rattle.poet.specs.Seal.{Limits, Rows, Tied, Seals}
-use Rattle.poet.specs.Rows.{State, turned, rows, start, opening, opened}
+use Rattle.poet.specs.Rows.{State, turned, rows, start, opened_rows, opened}
 use Rattle.poet.specs.Laws.{PrefixLaw, SealingPrefix, OpeningPrefix}
 use Rattle.poet.proofs.Turn.{turn, rows_turn}
 use Rattle.poet.proofs.Fronts.{front_back, front_forth, front_only, cut_front}
@@ -49,7 +49,7 @@ sealing_prefix f L h m m' c c' t t' k s s' l l' =
 -- the first k blocks that opening gives out
 opened_front : (f : Functions) (L : Lawful f) (h c t : List ℕ) (k : ℕ) → Limits h c → 16 * k < length c
     → take (16 * k) (opened f h c t) ≡ (rows f.dec f.chain k (turned (start f h)) c).out
-unfolding opening
+unfolding opened_rows
 opened_front f L h c t k l lt =
     cut_front f.dec f.enc f.chain (turn (ways f L)) (turned (start f h)) (turned_kept f L h l.header_bytes) refl _ k c _ l.bytes lt
 

@@ -5,6 +5,16 @@ use Rattle.poet.specs.Functions.{Functions, Lawful}
 use Rattle.poet.specs.Seal.{Limits, Tied, Seals}
 use Rattle.poet.specs.Rows.{State, AllRows, rows, whole, last, all_rows, opened, Computed, Accepts}
 
+-- A message within the limits has one seal under a header within them: one ciphertext and one tag.
+pub record OneSeal (f : Functions) (H M : List ℕ) : Type 0 where
+  pub C : List ℕ
+  pub T : List ℕ
+  pub seals : Seals f H M C T
+  pub only : (C' T' : List ℕ) → Seals f H M C' T' → (C' ≡ C) × (T' ≡ T)
+
+abbrev pub SealLaw : Type 0
+SealLaw = (f : Functions) → Lawful f → (H M : List ℕ) → Limits H M → OneSeal f H M
+
 -- What is computed is the seal, and nothing else is.
 abbrev pub ComputingLaw : Type 0
 ComputingLaw = (f : Functions) → Lawful f → (H M C T : List ℕ)
@@ -17,6 +27,11 @@ pub record Lengths (M C T : List ℕ) : Type 0 where
 
 abbrev pub TagLaw : Type 0
 TagLaw = (f : Functions) → Lawful f → (H M C T : List ℕ) → Seals f H M C T → Lengths M C T
+
+-- A ciphertext and a tag are the seal of one message at most.
+abbrev pub OnlyLaw : Type 0
+OnlyLaw = (f : Functions) → Lawful f → (H M M' C T : List ℕ)
+    → Seals f H M C T → Seals f H M' C T → M' ≡ M
 
 -- Opening accepts exactly what some message seals to; it computes that message, and every message
 -- that seals so equals it.

@@ -71,36 +71,36 @@ length_mask f n = f.enc (f.num (8 * n))
 unfoldable pub closing : Functions → List ℕ → List ℕ → List ℕ → List ℕ
 closing f t x y = f.enc (f.chain x ⊕ t) ⊕ f.chain y ⊕ t
 
--- sealing
-unfoldable pub sealing : Functions → List ℕ → List ℕ → AllRows
-sealing f h m = all_rows f.enc f.chain (length_mask f (length m))
+-- the rows of a sealing, and what they give: ciphertext and tag
+unfoldable pub sealed_rows : Functions → List ℕ → List ℕ → AllRows
+sealed_rows f h m = all_rows f.enc f.chain (length_mask f (length m))
     (start f h) m (take (16 - last_length m) (f.dig h))
 
-abbrev pub cipher : Functions → List ℕ → List ℕ → List ℕ
-cipher f h m = (sealing f h m).out
+abbrev pub ciphertext : Functions → List ℕ → List ℕ → List ℕ
+ciphertext f h m = (sealed_rows f h m).out
 
 abbrev pub tag : Functions → List ℕ → List ℕ → List ℕ
-tag f h m = (sealing f h m).rest ++ take (last_length m)
-    (closing f (f.dig h) (sealing f h m).x (sealing f h m).y)
+tag f h m = (sealed_rows f h m).rest ++ take (last_length m)
+    (closing f (f.dig h) (sealed_rows f h m).x (sealed_rows f h m).y)
 
 pub record Computed (f : Functions) (h m c t : List ℕ) : Type 0 where
   pub limits : Limits h m
-  pub cipher_is : c ≡ cipher f h m
+  pub cipher_is : c ≡ ciphertext f h m
   pub tag_is : t ≡ tag f h m
 
 -- opening: what it computes, and its tests
-unfoldable pub opening : Functions → List ℕ → List ℕ → List ℕ → AllRows
-opening f h c t = all_rows f.dec f.chain (length_mask f (length c))
+unfoldable pub opened_rows : Functions → List ℕ → List ℕ → List ℕ → AllRows
+opened_rows f h c t = all_rows f.dec f.chain (length_mask f (length c))
     (turned (start f h)) c (take (16 - last_length c) t)
 
 abbrev pub opened : Functions → List ℕ → List ℕ → List ℕ → List ℕ
-opened f h c t = (opening f h c t).out
+opened f h c t = (opened_rows f h c t).out
 
 pub record Accepts (f : Functions) (h c t : List ℕ) : Type 0 where
   pub limits : Limits h c
   pub tag_block : Block t
   -- the last block ends with the first bytes of τ
-  pub fill : (opening f h c t).rest ≡ take (16 - last_length c) (f.dig h)
+  pub fill : (opened_rows f h c t).rest ≡ take (16 - last_length c) (f.dig h)
   -- the tag ends with the first bytes of Z
   pub check : drop (16 - last_length c) t ≡ take (last_length c)
-      (closing f (f.dig h) (opening f h c t).y (opening f h c t).x)
+      (closing f (f.dig h) (opened_rows f h c t).y (opened_rows f h c t).x)

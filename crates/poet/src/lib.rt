@@ -4,22 +4,24 @@
 //! refused without the proof.
 #![tactic(auto)]
 
-ghost use Rattle.poet.specs.Laws.{ComputingLaw, LawfulSome, OpeningLaw, OpeningPrefix, PiecesLaw};
-ghost use Rattle.poet.specs.Laws.{PrefixLaw, SealingPrefix, TagLaw};
+ghost use Rattle.poet.specs.Laws.{ComputingLaw, LawfulSome, OnlyLaw, OpeningLaw, OpeningPrefix};
+ghost use Rattle.poet.specs.Laws.{PiecesLaw, PrefixLaw, SealLaw, SealingPrefix, TagLaw};
 
-/// A theorem: what the definitions compute is the seal by its equations, and nothing else is; a
-/// seal's ciphertext is as long as its message, and its tag has sixteen bytes.
+/// A theorem: a message within the limits has one seal; what the definitions compute is that seal,
+/// and nothing else is; its ciphertext is as long as the message, and its tag has sixteen bytes.
 pub fn computing_stands() -> u8
+    ensures one { SealLaw }
     ensures computing { ComputingLaw }
     ensures lengths { TagLaw }
 {
     0
 }
 
-/// A theorem: opening accepts exactly what some message seals to, and computes that message, which
-/// is the only one.
+/// A theorem: a ciphertext and a tag are the seal of one message at most; opening accepts exactly
+/// what some message seals to, and computes that message.
 pub fn opening_stands() -> u8
-    ensures { OpeningLaw }
+    ensures only { OnlyLaw }
+    ensures accepts { OpeningLaw }
 {
     0
 }

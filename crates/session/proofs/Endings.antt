@@ -4,7 +4,7 @@ use Rattle.std.proofs.lemmas.List.{take_at, drop_at, take_rest, take-replicate}
 use Rattle.std.specs.Bool.{then_some}
 use Rattle.std.proofs.lemmas.Bool.{and_parts, and_cases}
 use Rattle.poet.specs.Functions.{Functions}
-use Rattle.poet.specs.Rows.{State, AllRows, rows, last, cut, whole, last_length, all_rows, start, turned, length_mask, closing, sealing, cipher, tag, opening, opened}
+use Rattle.poet.specs.Rows.{State, AllRows, rows, last, cut, whole, last_length, all_rows, start, turned, length_mask, closing, sealed_rows, ciphertext, tag, opened_rows, opened}
 use Rattle.block.proofs.Completing.{completes}
 use Rattle.session.specs.declared.rows.Lanes.{Lanes}
 use Rattle.session.specs.Steps.{lanes, Ended, Tests, Tested}
@@ -50,20 +50,20 @@ last_bytes g q l k j gl fit je qe le =
 -- the end of a sealing
 pub sealed : (f : Functions) (H M : List ℕ) {tau S p b g z q T : List ℕ} {v v' : Lanes} {k : ℕ} → tau ≡ f.dig H → S ≡ length_mask f (length M) → v.taking ≡ (rows f.enc f.chain (whole M) (start f H) M).x → v.giving ≡ (rows f.enc f.chain (whole M) (start f H) M).y
     → p ≡ drop (16 * whole M) M → b ≡ take 16 (p ++ tau) → Ended f.enc f.chain S v b v' g → z ≡ closing f (f.dig H) v'.taking v'.giving → q ≡ take (16 - k) (drop k g) → T ≡ take 16 (q ++ z) → k ≡ last_length M → length g ≡ 16
-    → ((rows f.enc f.chain (whole M) (start f H) M).out ++ take (last_length M) g ≡ cipher f H M) × (T ≡ tag f H M)
-unfolding sealing
+    → ((rows f.enc f.chain (whole M) (start f H) M).out ++ take (last_length M) g ≡ ciphertext f H M) × (T ≡ tag f H M)
+unfolding sealed_rows
 sealed f H M {tau} {S} {p} {b} {g} {z} {q} {T} {v} {v'} {k} te Se xe ye pe be E ze qe Te ke gl =
     let s : State = start f H in
     let C : Closed f.enc f.chain S s M tau v' g = closed f.enc f.chain S s M tau p b v v' g xe ye pe be E in
-    let Q : all_rows f.enc f.chain S s M (take (16 - last_length M) tau) ≡ sealing f H M = cc in
-    let x_is : v'.taking ≡ (sealing f H M).x = C.x_is ∙ ap (λ (u : AllRows). u.x) Q in
-    let y_is : v'.giving ≡ (sealing f H M).y = C.y_is ∙ ap (λ (u : AllRows). u.y) Q in
-    let z_is : z ≡ closing f (f.dig H) (sealing f H M).x (sealing f H M).y = cc in
+    let Q : all_rows f.enc f.chain S s M (take (16 - last_length M) tau) ≡ sealed_rows f H M = cc in
+    let x_is : v'.taking ≡ (sealed_rows f H M).x = C.x_is ∙ ap (λ (u : AllRows). u.x) Q in
+    let y_is : v'.giving ≡ (sealed_rows f H M).y = C.y_is ∙ ap (λ (u : AllRows). u.y) Q in
+    let z_is : z ≡ closing f (f.dig H) (sealed_rows f H M).x (sealed_rows f H M).y = cc in
     let qd : q ≡ drop (last_length M) g = qe ∙ ap (λ n. take (n - k) (drop k g)) (sym gl) ∙ take_rest g k ∙ ap (λ n. drop n g) ke in
     let qs : length q ≤ 16 = omega (arith, ap length qd, length-drop (last_length M) g) in
     let ql : 16 - length q ≡ last_length M = omega (arith, ap length qd, length-drop (last_length M) g) in (
       C.out ∙ ap (λ (u : AllRows). u.out) Q,
-      Te ∙ completes q z qs ∙ ap₂ (λ u n. u ++ take n z) (qd ∙ C.rest ∙ ap (λ (u : AllRows). u.rest) Q) ql ∙ ap (λ u. (sealing f H M).rest ++ take (last_length M) u) z_is,
+      Te ∙ completes q z qs ∙ ap₂ (λ u n. u ++ take n z) (qd ∙ C.rest ∙ ap (λ (u : AllRows). u.rest) Q) ql ∙ ap (λ u. (sealed_rows f H M).rest ++ take (last_length M) u) z_is,
     )
 
 -- g ends with the front of t exactly when it is what its own first k bytes and t fill up
@@ -91,15 +91,15 @@ pub tested : (f : Functions) (H C T : List ℕ) {tau S p b g z q u r w : List �
     → z ≡ closing f (f.dig H) v'.giving v'.taking → q ≡ take k g → u ≡ take 16 (q ++ tau) → r ≡ take j T → w ≡ take 16 (r ++ z) → k ≡ last_length C → j ≡ 16 - last_length C → length g ≡ 16 → length T ≡ 16
     → (padded ≡ true → g ≡ u) → (padded ≡ false → g ≡ u → ⊥) → (tagged ≡ true → T ≡ w) → (tagged ≡ false → T ≡ w → ⊥)
     → Tested f H C T (rows f.dec f.chain (whole C) (turned (start f H)) C).out (then_some (padded && tagged) g)
-unfolding opening
+unfolding opened_rows
 tested f H C T {tau} {S} {p} {b} {g} {z} {q} {u} {r} {w} {v} {v'} {k} {j} {padded} {tagged} te Se xe ye pe be E ze qe ue ve we ke je gl Tl p-yes p-no t-yes t-no =
     let s : State = turned (start f H) in
     let X : Closed f.dec f.chain S s C T v' g = closed f.dec f.chain S s C T p b v v' g xe ye pe be E in
-    let Q : all_rows f.dec f.chain S s C (take (16 - last_length C) T) ≡ opening f H C T = cc in
-    let x_is : v'.taking ≡ (opening f H C T).x = X.x_is ∙ ap (λ (o : AllRows). o.x) Q in
-    let y_is : v'.giving ≡ (opening f H C T).y = X.y_is ∙ ap (λ (o : AllRows). o.y) Q in
-    let z_is : z ≡ closing f (f.dig H) (opening f H C T).y (opening f H C T).x = cc in
-    let r-is : drop (last_length C) g ≡ (opening f H C T).rest = X.rest ∙ ap (λ (o : AllRows). o.rest) Q in
+    let Q : all_rows f.dec f.chain S s C (take (16 - last_length C) T) ≡ opened_rows f H C T = cc in
+    let x_is : v'.taking ≡ (opened_rows f H C T).x = X.x_is ∙ ap (λ (o : AllRows). o.x) Q in
+    let y_is : v'.giving ≡ (opened_rows f H C T).y = X.y_is ∙ ap (λ (o : AllRows). o.y) Q in
+    let z_is : z ≡ closing f (f.dig H) (opened_rows f H C T).y (opened_rows f H C T).x = cc in
+    let r-is : drop (last_length C) g ≡ (opened_rows f H C T).rest = X.rest ∙ ap (λ (o : AllRows). o.rest) Q in
     let qe' : q ≡ take (last_length C) g = qe ∙ ap (λ n. take n g) ke in
     let ve' : r ≡ take (16 - last_length C) T = ve ∙ ap (λ n. take n T) je in
     let few : last_length C ≤ 16 = omega arith in

@@ -9,7 +9,7 @@ use Rattle.fault.specs.Refusals.{refusal, IsRefusal, RefusedBy, session_faults}
 use Rattle.block.specs.Bytes.{Bytes, Block}
 use Rattle.poet.specs.Functions.{Functions, Lawful}
 use Rattle.poet.specs.Seal.{body_most, Limits, Seals}
-use Rattle.poet.specs.Rows.{last_length, cipher, tag, opened}
+use Rattle.poet.specs.Rows.{last_length, ciphertext, tag, opened}
 use Rattle.poet.proofs.Computing.{computing_law}
 use Rattle.poet.proofs.Accepting.{opening_law, tag_law}
 use Rattle.session.specs.Calls.{tag_check, forged}
@@ -37,7 +37,7 @@ module _ (f : Functions) (L : Lawful f) (R : Run) (t : Taken R) (lim : Limits R.
       let b = last_bytes g q l (held R) j gl (omega arith) (omega arith) qe e in
       (b.0 ∙ ap (λ n. take n g) h, b.1)
 
-  pub seal_finished : (T : List ℕ) → R.out ≡ (rows_of sealing f R).out → ((rows_of sealing f R).out ++ take (last_length R.body) g ≡ cipher f R.header R.body) × (T ≡ tag f R.header R.body) → SealFinished f R l T (Ok len)
+  pub seal_finished : (T : List ℕ) → R.out ≡ (rows_of sealing f R).out → ((rows_of sealing f R).out ++ take (last_length R.body) g ≡ ciphertext f R.header R.body) × (T ≡ tag f R.header R.body) → SealFinished f R l T (Ok len)
   seal_finished T oe s =
       let b = bytes sealing oe in
       let seals : Seals f R.header R.body (R.out ++ take (held R) l) T =

@@ -3,7 +3,7 @@
 use Rattle.std.specs.Prelude.{◌≡◌, ℕ, ◌-◌, ◌*◌, List, [], ◌++◌, take, drop, Some, None, Option}
 use Rattle.poet.specs.Functions.{Functions}
 use Rattle.session.specs.declared.rows.Lanes.{Lanes}
-use Rattle.poet.specs.Rows.{State, takes, gives, rows, last, last_length, closing, opening, opened}
+use Rattle.poet.specs.Rows.{State, takes, gives, rows, last, last_length, closing, opened_rows, opened}
 
 -- x and y, and nothing given out yet
 abbrev pub lanes : List ℕ → List ℕ → State
@@ -34,10 +34,10 @@ pub record Ran (e c : List ℕ → List ℕ) (s : Lanes) (a o : List ℕ) (n : �
 -- the two tests of an opening of C under the header H with the tag T
 pub record Tests (f : Functions) (H C T : List ℕ) : Type 0 where
   -- the last block ends with the front of τ
-  pub fill : (opening f H C T).rest ≡ take (16 - last_length C) (f.dig H)
+  pub fill : (opened_rows f H C T).rest ≡ take (16 - last_length C) (f.dig H)
   -- the tag ends with the front of Z
   pub check : drop (16 - last_length C) T ≡ take (last_length C)
-      (closing f (f.dig H) (opening f H C T).y (opening f H C T).x)
+      (closing f (f.dig H) (opened_rows f H C T).y (opened_rows f H C T).x)
 
 -- the rows before the last gave G; the last one gave g, if the tests are passed
 abbrev pub Tested : (f : Functions) (H C T G : List ℕ) → Option (List ℕ) → Type 0
