@@ -52,7 +52,7 @@ abbrev pub Refuses : {F X : Type 0} → Table F → Refusal F → Result X (Plac
 Refuses t e (Ok x) = ⊥
 Refuses t e (Err p) = IsRefusal t e p
 
--- It refuses exactly if a check fails, and then as that check says.
+-- It refuses exactly if the check fails, and then as the check says.
 abbrev pub RefusedBy : {F X : Type 0} → Table F → Option (Refusal F) → Result X (Placed F) → Type 0
 RefusedBy t None r = IsOk r
 RefusedBy t (Some e) r = Refuses t e r

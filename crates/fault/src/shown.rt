@@ -32,7 +32,7 @@ impl fmt::Display for Layer {
     }
 }
 
-/// A fault of any layer has a number, 1 to 13, and the layer that found it.
+/// A fault of any layer has a number, by which it is told, and the layer that found it.
 pub trait Fault {
     ghost number: { Self → ℕ };
 

@@ -1,4 +1,4 @@
--- What holds of the forms.
+-- What holds of doubling, and of suites made of one cipher.
 use Rattle.std.specs.Prelude.{◌≡◌, ℕ, ◌<◌, ◌||◌, List, bit_xor, ◌==◌, if◌then◌else◌}
 use Rattle.block.specs.Bytes.{Bytes, Block}
 use Rattle.block.specs.Permutes.{Permutes}

@@ -1,4 +1,4 @@
--- The same by computing: rows over a state, sealing, and opening, which is sealing with D for E and
+-- Seals by computing: rows over a state, sealing, and opening, which is sealing with D for E and
 -- with X and Y exchanged. Laws.antt states that this is the seal of Seal.antt.
 use Rattle.std.specs.Prelude.{◌≡◌, ℕ, zero, suc, ◌-◌, ◌*◌, ◌/◌, List, [], ◌++◌, length, take, drop}
 use Rattle.block.specs.Bytes.{Block, block, ◌⊕◌}

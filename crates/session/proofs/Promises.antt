@@ -1,5 +1,5 @@
 -- Every run of a session hands out the blocks of the rows.
-use Rattle.std.proofs.Common.{◌≡◌, ℕ, ◌*◌, ◌≤◌, List, length, take, sym, refl, ap, ◌∙◌, subst, arith, take_at}
+use Rattle.std.proofs.Common.{◌≡◌, ℕ, ◌*◌, ◌<◌, ◌≤◌, ◌↔◌, List, length, take, sym, refl, ap, ◌∙◌, subst, arith, take_at}
 use Rattle.block.specs.Bytes.{Bytes}
 use Rattle.poet.specs.Functions.{Functions, Lawful}
 use Rattle.poet.specs.Seal.{Tied, Seals}
@@ -13,7 +13,7 @@ use Rattle.poet.proofs.Ties.{row, ties}
 use Rattle.poet.proofs.Prefix.{prefix_law, seal_tied}
 use Rattle.session.specs.Directions.{Direction, sealing, opening, picks, turns}
 use Rattle.session.specs.Runs.{Run}
-use Rattle.session.specs.Promise.{TiedBy, Blocks, TwoRuns, AgreesWith}
+use Rattle.session.specs.Promise.{TiedBy, Blocks, AgreesWith}
 use Rattle.session.specs.Sessions.{Taken, rows_of}
 use Rattle.session.proofs.Stretches.{both_ways, turns_kept, turns_out, out_length}
 
@@ -64,7 +64,9 @@ blocks f L w R t e =
           (sym (ap (take (16 * k)) e ∙ front (picks w f.enc f.dec) f.chain k (whole R.body) s R.body (omega arith) fl));
     }
 
-pub two_runs : TwoRuns
+pub two_runs : (w : Direction) (f : Functions) → Lawful f → (R R' : Run) → Blocks w f R → Blocks w f R' → R'.header ≡ R.header
+    → (k : ℕ) → 16 * k < length R.body → 16 * k < length R'.body
+    → (take (16 * k) R.out ≡ take (16 * k) R'.out) ↔ (take (16 * k) R.body ≡ take (16 * k) R'.body)
 two_runs sealing f L R R' b b' h k l l' =
     prefix_law f L R.header b.header_bytes R.body R'.body R.out R'.out k b.body_bytes b'.body_bytes (omega arith) (omega arith) (b.tied k l) (subst (λ (H : List ℕ). Tied f H k R'.body R'.out) h (b'.tied k l'))
 two_runs opening f L R R' b b' h k l l' =

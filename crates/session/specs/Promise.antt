@@ -1,7 +1,7 @@
 -- What a session promises of every run, finished or not, accepted or not.
 use Rattle.std.specs.Prelude.{◌≡◌, ℕ, ◌*◌, ◌<◌, ◌≤◌, ◌↔◌, List, length, take}
 use Rattle.block.specs.Bytes.{Bytes}
-use Rattle.poet.specs.Functions.{Functions, Lawful}
+use Rattle.poet.specs.Functions.{Functions}
 use Rattle.poet.specs.Seal.{Tied}
 use Rattle.session.specs.Directions.{Direction, sealing, opening}
 use Rattle.session.specs.Runs.{Run}
@@ -26,11 +26,4 @@ pub record Blocks (w : Direction) (f : Functions) (R : Run) : Type 0 where
 abbrev pub AgreesWith : Direction → Functions → Run → Type 0
 AgreesWith w f R = (R' : Run) → Blocks w f R' → R'.header ≡ R.header → (k : ℕ)
     → 16 * k < length R.body → 16 * k < length R'.body
-    → (take (16 * k) R.out ≡ take (16 * k) R'.out) ↔ (take (16 * k) R.body ≡ take (16 * k) R'.body)
-
--- Two such runs under one key and header handed out the same first k blocks exactly when they took
--- the same first k blocks.
-abbrev pub TwoRuns : Type 0
-TwoRuns = (w : Direction) (f : Functions) → Lawful f → (R R' : Run) → Blocks w f R → Blocks w f R'
-    → R'.header ≡ R.header → (k : ℕ) → 16 * k < length R.body → 16 * k < length R'.body
     → (take (16 * k) R.out ≡ take (16 * k) R'.out) ↔ (take (16 * k) R.body ≡ take (16 * k) R'.body)

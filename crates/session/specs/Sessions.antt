@@ -1,6 +1,6 @@
 -- What a session holds after a run, and what each of its calls does.
 use Rattle.std.specs.Prelude.{◌≡◌, ℕ, ◌+◌, ◌-◌, ◌*◌, ◌/◌, ◌≤◌, List, [], ◌++◌, length, drop}
-use Rattle.std.specs.Prelude.{if◌then◌else◌, ◌==◌, nat_lt, Some, None, Option}
+use Rattle.std.specs.Prelude.{◌<◌, ◌↔◌, ◌⊎◌, if◌then◌else◌, ◌==◌, nat_lt, Some, None, Option}
 use Rattle.fault.specs.declared.kinds.Layer.TheVariants.{Session as SessionLayer}
 use Rattle.fault.specs.declared.kinds.SessionFault.{SessionFault}
 use Rattle.fault.specs.declared.kinds.SessionFault.TheVariants.{Header, Body, Room, Empty}
@@ -63,11 +63,20 @@ header_check taken more =
     if nat_lt header_most (taken + more) then Some (refusal Header 4 SessionLayer taken)
     else None
 
--- A body call brings `more` bytes; with t the bytes held and brought it writes every whole block
--- that at least one byte follows.
+-- With t the bytes held and brought, a body call writes every whole block that at least one byte
+-- follows.
 abbrev pub writes : ℕ → ℕ
 writes t = 16 * ((t - 1) / 16)
 
+-- So k blocks and more are written exactly if a byte follows k blocks ...
+abbrev pub WritesLaw : Type 0
+WritesLaw = (t k : ℕ) → (16 * k ≤ writes t) ↔ ((k ≡ 0) ⊎ (16 * k < t))
+
+-- ... and of one byte or more, 1 to 16 are held back.
+abbrev pub HoldsLaw : Type 0
+HoldsLaw = (t : ℕ) → 0 < t → (1 ≤ t - writes t) × (t - writes t ≤ 16)
+
+-- A body call brings `more` bytes, to those taken and those held.
 abbrev pub body_check : (taken held more room : ℕ) → Option (Refusal SessionFault)
 body_check taken held more room =
     if nat_lt body_most (taken + more) then Some (refusal Body 5 SessionLayer taken)
@@ -82,9 +91,9 @@ given_of t = (writes t, t - writes t)
 abbrev pub held : Run → ℕ
 held R = length R.body - length R.out
 
--- A finish is refused where no body was taken; `more` is the check that comes after this.
+-- A finish is refused where no body was taken; the check `next` comes after this.
 abbrev pub finish_check : Run → Option (Refusal SessionFault) → Option (Refusal SessionFault)
-finish_check R more = if length R.body == 0 then Some (refusal Empty 7 SessionLayer 0) else more
+finish_check R next = if length R.body == 0 then Some (refusal Empty 7 SessionLayer 0) else next
 
 abbrev pub sealing_check : Run → Option (Refusal SessionFault)
 sealing_check R = finish_check R None

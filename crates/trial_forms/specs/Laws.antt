@@ -1,4 +1,4 @@
--- What holds of them.
+-- The suites that no list has are lawful.
 use Rattle.std.specs.Prelude.{List, ℕ}
 use Rattle.block.specs.Bytes.{Block}
 use Rattle.poet.specs.Functions.{Lawful}
