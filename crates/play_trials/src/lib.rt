@@ -1,6 +1,8 @@
-//! A test of the played session on the largest case: that it does not give up for want of memory is
-//! what its contract cannot say.
+//! Tests of played sessions: that the largest does not give up for want of memory, which no contract
+//! can say, and that one which gives up says so and nothing else.
 #![tactic(auto)]
 
 #[cfg(test)]
 mod largest;
+#[cfg(test)]
+mod short;
