@@ -66,7 +66,8 @@ OpenEnds (Some e) f R T r last = Refuses session_faults e r × (last ≡ replica
 OpenEnds None f R T r last = OpenVerdict f R T r last
 
 -- What is promised of a sealing under `key`: H is the header taken, M and `before` what was taken
--- and answered before the body calls bs. A refusal has its number and layer by the table of faults.
+-- and answered before the body calls bs. A refusal among their answers has its number and its layer
+-- by the table of faults.
 abbrev pub SealFinish : Bool → (f : Functions) (R : Run) (answers : List Answer) (p : Played)
     (e : End) → Type 0
 SealFinish false f R answers p e = (e ≡ Unfinished) × (vec_items p.answers ≡ answers) × HeldBack R
@@ -121,7 +122,8 @@ CourseKept (Seal bodies fin) under key hs p e = SealPromise under key (headers_t
 CourseKept (Open bodies tag) under key hs p e = OpenPromise under key (headers_taken [] hs) []
     (header_answers [] hs) bodies.now (tag_of tag) p e
 
--- The promise of a written session, whole.
+-- The promise of a written session, whole: of its course, and that a refusal among the answers of
+-- its header calls has its number and its layer by the table.
 abbrev pub CoursePlayed : Course → (under : List ℕ → Functions) (key : List ℕ)
     → (hs : List Stretch) (p : Played) (e : End) → Type 0
 CoursePlayed c under key hs p e = CourseKept c under key hs p e × AllByTable header_check_of [] hs
