@@ -1,10 +1,11 @@
 -- What each call does, by its check: all that its contract says, gathered as proofs use it.
-use Rattle.std.proofs.Common.{◌≡◌, ℕ, ◌+◌, ◌-◌, ◌↔◌, List, [], ◌++◌, length, take, drop, replicate, IfOk, IfErr, Some, None, Ok, Err, Option, Result, sym, refl, ap, ◌∙◌, subst, append-nil}
+use Rattle.std.proofs.Common.{◌≡◌, ℕ, ◌+◌, ◌-◌, ◌≤◌, ◌↔◌, List, [], ◌++◌, length, take, drop, replicate, IfOk, IfErr, Some, None, Ok, Err, Option, Result, sym, refl, ap, ◌∙◌, subst, append-nil}
 use Rattle.std.specs.Result.{OnOk, OnErr, IsOk}
 use Rattle.fault.specs.declared.kinds.KeyFault.{KeyFault}
 use Rattle.fault.specs.declared.kinds.SessionFault.{SessionFault}
 use Rattle.fault.specs.declared.kinds.Placed.{Placed}
 use Rattle.fault.specs.Refusals.{Refusal, IsRefusal, Refuses, RefusedBy, key_faults, session_faults}
+use Rattle.block.specs.Bytes.{Block}
 use Rattle.poet.specs.Functions.{Functions, Lawful}
 use Rattle.poet.specs.Seal.{Seals}
 use Rattle.suite.specs.declared.Suite as suite
@@ -18,7 +19,7 @@ use Rattle.session.specs.Calls.{forged}
 use Rattle.session.specs.Directions.{Direction, sealing, opening}
 use Rattle.session.specs.Runs.{Run, headed, bodied, finished, ended}
 use Rattle.session.specs.Promise.{Blocks, AgreesWith}
-use Rattle.session.specs.Sessions.{Taken, HeadingAt, SessionAt, rows_of, held, writes, given_of}
+use Rattle.session.specs.Sessions.{Taken, HeadingAt, SessionAt, rows_of, held, writes, given_of, opening_check}
 use Rattle.session.proofs.Promises.{blocks, agrees, sealed_blocks}
 
 -- a key put into a place b, which becomes b'
@@ -191,3 +192,33 @@ module _ (f : Functions) (L : Lawful f) (R : Run) (t : Taken R) where
         blocks = b;
         two_runs = agrees opening f L _ b;
       }
+
+-- The clauses of an opening's finish, which speak of every run, from what it does by its check after each.
+pub open_clauses : {A W B C D : Type 0} {u : suite.Ghosts A B C D} {p : permutation.Ghosts B} {h : hash.Ghosts C} {d : digest.Ghosts D} {w : way.Ghosts W} (L : (key : List ℕ) → Block key → Lawful (u.under key)) (s : Session A W B C D u p h d w) (T l : List ℕ) (r : Result ℕ (Placed SessionFault)) → IfOk r (λ n. n ≤ 16)
+    → OnErr r (l ≡ replicate 16 0) → ((R : Run) → SessionAt R s → R.out ≡ (rows_of opening (u.under R.key) R).out) → ((R : Run) → SessionAt R s → OpenedBy (opening_check R T) (u.under R.key) R T l r)
+    → record {
+      few : IfOk r (λ n. n ≤ 16);
+      refused : (R : Run) → SessionAt R s → (e : Refusal SessionFault) → opening_check R T ≡ Some e → Refuses session_faults e r;
+      forgery : (R : Run) → SessionAt R s → opening_check R T ≡ None → IfErr r (IsRefusal session_faults (forged (length R.body)));
+      cleared : OnErr r (l ≡ replicate 16 0);
+      accepts : (R : Run) → SessionAt R s → IsOk r ↔ ((M : List ℕ) × Seals (u.under R.key) R.header M R.body T);
+      message : (R : Run) → SessionAt R s → IfOk r (λ n. (n ≡ held R) × Seals (u.under R.key) R.header (R.out ++ take n l) R.body T);
+      only : (R : Run) → SessionAt R s → IfOk r (λ n. (M : List ℕ) → Seals (u.under R.key) R.header M R.body T → M ≡ R.out ++ take n l);
+      zeros : (R : Run) → SessionAt R s → IfOk r (λ n. drop n l ≡ replicate (16 - n) 0);
+      blocks : (R : Run) → SessionAt R s → Blocks opening (u.under R.key) (ended R r l);
+      two_runs : (R : Run) → SessionAt R s → AgreesWith opening (u.under R.key) (ended R r l);
+    }
+open_clauses {u = u} L s T l r few cleared out by =
+    let q = λ (R : Run) (a : SessionAt R s). open_end (u.under R.key) (L R.key a.taken.key_block) R a.taken (opening_check R T) T l r (out R a) (by R a) in
+    record {
+      few = few;
+      refused = λ R a. (q R a).refused;
+      forgery = λ R a. (q R a).forgery;
+      cleared = cleared;
+      accepts = λ R a. (q R a).accepts;
+      message = λ R a. (q R a).message;
+      only = λ R a. (q R a).only;
+      zeros = λ R a. (q R a).zeros;
+      blocks = λ R a. (q R a).blocks;
+      two_runs = λ R a. (q R a).two_runs;
+    }

@@ -166,23 +166,6 @@ impl<S: Suite> Opening<S> {
     ghost use Rattle.session.specs.Sessions.{SessionAt, held, opening_check, rows_of};
     ghost use Rattle.session.specs.Steps.{Tested};
 
-    // The last row under a tag: the block that it gives, if the opening passes its tests. Both
-    // tests are made, and each to the end, so that the time tells nothing of where a forgery fails.
-    fn verdict(&self, tag: &[u8; 16]) -> Option<[u8; 16]>
-        ensures { (R : Run) → SessionAt R self.now
-            → Tested (S.Suite.under R.key) R.header R.body tag.now
-            (rows_of opening (S.Suite.under R.key) R).out result }
-    {
-        let mask = self.engine.mask(self.total);
-        let held = self.held.as_slice();
-        let block = complete(held, tag);
-        let (end, given) = self.engine.last_row::<Open>(self.lanes, mask, block);
-        let z = self.engine.closing(end.giving, end.taking);
-        let padded = same(&given, &complete(&given[..held.len()], &self.engine.tau));
-        let tagged = same(tag, &complete(&tag[..16 - held.len()], &z));
-        (padded & tagged).then_some(given)
-    }
-
     /// Ends the opening: accepts what was handed out, or refuses it. The last bytes of the message
     /// go to `last`, with zeros behind them. Answers how many bytes these are, 1 to 16.
     ///
@@ -232,5 +215,22 @@ impl<S: Suite> Opening<S> {
         let len = self.held.as_slice().len();
         *last = complete(&given[..len], &[0; 16]);
         Ok(len)
+    }
+
+    // The last row under a tag: the block that it gives, if the opening passes its tests. Both
+    // tests are made, and each to the end, so that the time tells nothing of where a forgery fails.
+    fn verdict(&self, tag: &[u8; 16]) -> Option<[u8; 16]>
+        ensures { (R : Run) → SessionAt R self.now
+            → Tested (S.Suite.under R.key) R.header R.body tag.now
+            (rows_of opening (S.Suite.under R.key) R).out result }
+    {
+        let mask = self.engine.mask(self.total);
+        let held = self.held.as_slice();
+        let block = complete(held, tag);
+        let (end, given) = self.engine.last_row::<Open>(self.lanes, mask, block);
+        let z = self.engine.closing(end.giving, end.taking);
+        let padded = same(&given, &complete(&given[..held.len()], &self.engine.tau));
+        let tagged = same(tag, &complete(&tag[..16 - held.len()], &z));
+        (padded & tagged).then_some(given)
     }
 }
