@@ -4,6 +4,7 @@
 use anyhow::anyhow;
 use report::run;
 use std::env;
+use std::io::IsTerminal;
 
 const HELP: &'static str =
     "console reads one delivery from standard input, and prints its parts list, a line an entry; or
@@ -13,7 +14,15 @@ const HELP: &'static str =
 fn main(rt: HostRuntime) -> anyhow::Result<()> {
     let word = env::args(&rt)?.nth(1);
     match word.as_deref() {
-        None => run(&mut rt.stdin(), &mut rt.stdout())?,
+        None => {
+            let mut reader = rt.stdin();
+            if reader.is_terminal() {
+                eprintln!(rt;
+                    "console reads a delivery from the terminal, to its end (control-D)"
+                )?;
+            }
+            run(&mut reader, &mut rt.stdout())?;
+        }
         Some("--help") => print!(rt; "{HELP}")?,
         Some(word) => return Err(anyhow!("{word}: console takes no arguments but --help")),
     }
