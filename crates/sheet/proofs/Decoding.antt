@@ -1,5 +1,5 @@
 -- Entries and sheets: an entry is read exactly where its bytes stand, and a sheet has one list of entries.
-use Rattle.std.proofs.Common.{◌≡◌, ℕ, ◌+◌, ◌<◌, ◌≤◌, Bool, List, [], ◌∷◌, ◌++◌, length, drop, is_some, Some, None, Ok, Option, sym, refl, ap, ◌∙◌, subst, append_assoc, append-nil, arith, length-append, length-drop}
+use Rattle.std.proofs.Common.{◌≡◌, ℕ, ◌+◌, ◌<◌, ◌≤◌, Bool, List, [], ◌∷◌, ◌++◌, length, drop, is_some, Some, None, Ok, Option, sym, refl, ap, ◌∙◌, subst, append_assoc, append-nil, inl, inr, arith, length-append, length-drop}
 use Rattle.std.proofs.lemmas.List.{drop_all, length_push}
 use Rattle.std.proofs.lemmas.List.Elements.{All-drop}
 use Rattle.fault.specs.declared.kinds.SheetFault.{SheetFault}
@@ -9,9 +9,9 @@ use Rattle.sheet.specs.Table.{is_set}
 use Rattle.sheet.specs.Entries.{Item, Good, Held, two, one, text, counted, held, item_map, map_of, bytes, sheet_of, AllGood, Lent, item_of}
 use Rattle.sheet.specs.Reading.{Read, got, fault, next, read_code, read_number, read_landing, read_drawing, read_held, read_map, item, read_fields, read_item}
 use Rattle.sheet.specs.Calls.{Follows, Holds, Broken}
-use Rattle.sheet.specs.Laws.{ReadingLaw, UniqueLaw}
+use Rattle.sheet.specs.Laws.{ReadingLaw, UniqueLaw, HoldsLaw, BrokenLaw}
 use Rattle.sheet.specs.Breaks.{RefusedAt}
-use Rattle.sheet.proofs.Breaking.{refusals}
+use Rattle.sheet.proofs.Breaking.{refusals, first}
 use Rattle.sheet.proofs.Fields.{Octets, octets_right, fault_got, got_same, next_inv, Lawful, code_lawful, count_lawful, months_lawful, landing_lawful, drawing_lawful, held_back, held_sound, map_back, map_flags, map_sound}
 
 pub bytes_on : (e : Item) (rest : List ℕ) → bytes e ++ rest ≡ two (item_map e) ++ (e.code ++ (held text e.parent ++ (two e.count ++ (held one e.landing ++ (held two e.months ++ (held counted e.drawing ++ rest))))))
@@ -188,7 +188,7 @@ pub nothing : (s : List ℕ) (p n : ℕ) → Sofar s p n → length s ≤ p → 
 nothing s p n h l z =
     let e : s ≡ [] = empty s p h.items h.is (omega (arith, h.count)) l in (
       λ fs g. some_made fs g.some (g.is ∙ e),
-      subst (λ (x : List ℕ). Broken x (record { fault = Cut; place = 0 })) (sym e) (record { before = []; good = tt; length_before = refl; is = refl; refused = (refusals 0 [] (record { fault = Cut; place = 0 }) none_at).0 (refl, refl) }),
+      subst (λ (x : List ℕ). Broken x (record { fault = Cut; place = 0 })) (sym e) (record { inside = inl refl; before = []; good = tt; length_before = refl; is = refl; refused = (refusals 0 [] (record { fault = Cut; place = 0 }) none_at).0 (refl, refl) }),
     )
 
 -- a refusal, as a next call on the sheet t answers it
@@ -200,6 +200,7 @@ refusal s t p n f te o h a lt =
     let at : f.place ≡ p = is.1 in (
       λ fs g. refused (drop p s) f.fault (simp length-drop (omega arith)) is.0 (strip h.items fs (drop p s) h.good g.good (g.is ∙ sym h.is)),
       record {
+        inside = inr (omega (arith, at));
         before = h.items;
         good = h.good;
         length_before = let l = ap length h.is in let a = length-append (sheet_of h.items) (drop p s) in let m = length-drop p s in omega (arith, h.within);
@@ -207,3 +208,34 @@ refusal s t p n f te o h a lt =
         refused = subst (λ (i : ℕ). RefusedAt i (drop i s) f) (sym at) b;
       },
     )
+
+-- ---- broken sheets
+
+-- what stands at the place cannot be read
+unread : (s : List ℕ) (f : Placed SheetFault) → Octets s → (b : Broken s f) → read_item (drop f.place s) ≡ fault f.fault
+unread s f o b = ((refusals f.place (drop f.place s) f (All-drop (λ x. x < 256) f.place s o)).1 b.refused).0
+
+pub holds : HoldsLaw
+holds s es f o h b =
+    elim b.inside [
+      | inl e ↦ some_made es h.some (h.is ∙ e)
+      | inr l ↦ refused (drop f.place s) f.fault (simp length-drop (omega (arith, l))) (unread s f o b) (strip b.before es (drop f.place s) b.good h.good (h.is ∙ sym b.is))
+    ]
+
+-- good entries before bytes that cannot be read are of one list only
+one_front : (es fs : List Item) (r t : List ℕ) (x y : SheetFault) → AllGood es → AllGood fs → read_item r ≡ fault x → read_item t ≡ fault y → sheet_of es ++ r ≡ sheet_of fs ++ t → sheet_of es ≡ sheet_of fs
+one_front [] [] r t x y g h a b q = refl
+one_front [] (f ∷ fs) r t x y g h a b q =
+    absurd (fault_got x f (sheet_of fs ++ t) (sym a ∙ ap read_item (q ∙ append_assoc (bytes f) (sheet_of fs) t) ∙ back f (sheet_of fs ++ t) h.0))
+one_front (e ∷ es) [] r t x y g h a b q =
+    absurd (fault_got y e (sheet_of es ++ r) (sym b ∙ ap read_item (sym q ∙ append_assoc (bytes e) (sheet_of es) r) ∙ back e (sheet_of es ++ r) g.0))
+one_front (e ∷ es) (f ∷ fs) r t x y g h a b q =
+    let s = same e f (sheet_of es ++ r) (sheet_of fs ++ t) g.0 h.0 (sym (append_assoc (bytes e) (sheet_of es) r) ∙ q ∙ append_assoc (bytes f) (sheet_of fs) t) in
+    let n = one_front es fs r t x y g.1 h.1 a b s.1 in
+    λ i. bytes (s.0 i) ++ n i
+
+pub broken : BrokenLaw
+broken s f g o b c =
+    let n = one_front b.before c.before (drop f.place s) (drop g.place s) f.fault g.fault b.good c.good (unread s f o b) (unread s g o c) (b.is ∙ sym c.is) in
+    let p : g.place ≡ f.place = sym c.length_before ∙ ap length (sym n) ∙ b.length_before in
+    first f.place (drop f.place s) f g (All-drop (λ x. x < 256) f.place s o) b.refused (subst (λ (i : ℕ). RefusedAt i (drop i s) g) p c.refused)

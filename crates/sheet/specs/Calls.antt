@@ -138,8 +138,10 @@ pub record Holds (s : List ℕ) (es : List Item) : Type 0 where
   pub good : AllGood es
   pub is : sheet_of es ≡ s
 
--- The refusal of a sheet: good entries stand before a place, and what stands there is refused.
+-- The refusal of a sheet: it is empty, or good entries stand before a place within it, and what
+-- stands there is refused.
 pub record Broken (s : List ℕ) (f : Placed SheetFault) : Type 0 where
+  pub inside : (s ≡ []) ⊎ (f.place < length s)
   pub before : List Item
   pub good : AllGood before
   pub length_before : length (sheet_of before) ≡ f.place

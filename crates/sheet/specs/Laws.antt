@@ -6,7 +6,7 @@ use Rattle.fault.specs.declared.kinds.Placed.{Placed}
 use Rattle.sheet.specs.Entries.{Item, Good, AllGood, bytes, sheet_of}
 use Rattle.sheet.specs.Reading.{got, fault, read_item}
 use Rattle.sheet.specs.Breaks.{RefusedAt}
-use Rattle.sheet.specs.Calls.{NotWritten, Wrote}
+use Rattle.sheet.specs.Calls.{NotWritten, Wrote, Holds, Broken}
 
 -- An entry is read from the front of some bytes exactly where its bytes stand there.
 abbrev pub ReadingLaw : Type 0
@@ -25,6 +25,15 @@ FirstLaw = (p : ℕ) (bs : List ℕ) (f g : Placed SheetFault) → All (λ b. b 
 -- One sheet has one list: no two lists of good entries have the same bytes.
 abbrev pub UniqueLaw : Type 0
 UniqueLaw = (es fs : List Item) → AllGood es → AllGood fs → sheet_of es ≡ sheet_of fs → es ≡ fs
+
+-- A sheet that holds a list is not broken, and a broken sheet has one refusal.
+abbrev pub HoldsLaw : Type 0
+HoldsLaw = (s : List ℕ) (es : List Item) (f : Placed SheetFault) → All (λ b. b < 256) s
+    → Holds s es → Broken s f → ⊥
+
+abbrev pub BrokenLaw : Type 0
+BrokenLaw = (s : List ℕ) (f g : Placed SheetFault) → All (λ b. b < 256) s
+    → Broken s f → Broken s g → f ≡ g
 
 -- Write calls one after another, none refused: the buffer `old` became `new`, and the places went
 -- from `at` to `end`.

@@ -1,6 +1,7 @@
 //! The test of a whole sheet.
 ghost use Rattle.sheet.specs.Calls.{Tested};
-ghost use Rattle.sheet.specs.Laws.{FirstLaw, ReadingLaw, RefusalLaw, UniqueLaw};
+ghost use Rattle.sheet.specs.Laws.{BrokenLaw, FirstLaw, HoldsLaw, ReadingLaw, RefusalLaw};
+ghost use Rattle.sheet.specs.Laws.{UniqueLaw};
 
 use crate::reader::Reader;
 use fault::kinds::{Placed, SheetFault};
@@ -28,12 +29,15 @@ pub fn test(sheet: &[u8]) -> Result<usize, Placed<SheetFault>>
 }
 
 /// An entry is read exactly where its bytes stand; where none is read, the refusal is the one rule
-/// that is broken first; and no two lists of entries have the same sheet.
+/// that is broken first; no two lists of entries have the same sheet; a sheet that holds a list is
+/// not broken, and a broken sheet has one refusal.
 pub fn reading_stands() -> u8
     ensures reads { ReadingLaw }
     ensures refuses { RefusalLaw }
     ensures first { FirstLaw }
     ensures unique { UniqueLaw }
+    ensures holds { HoldsLaw }
+    ensures broken { BrokenLaw }
 {
     0
 }
