@@ -1,5 +1,5 @@
 -- From a parsed delivery and the opening of its sheet to the list that the input delivers.
-use Rattle.std.proofs.Common.{◌≡◌, ℕ, ◌≤◌, Bool, true, false, cond, eqb, ltb, List, length, take, IsErrAnd, Some, None, Ok, Err, Option, Result, sym, refl, ◌∙◌, subst, ⊎_elim, arith, eq-eqb, true-eqb}
+use Rattle.std.proofs.Common.{◌≡◌, ℕ, ◌<◌, ◌≤◌, Bool, true, false, cond, eqb, ltb, List, length, take, IsErrAnd, Some, None, Ok, Err, Option, Result, sym, refl, ◌∙◌, subst, ⊎_elim, arith, eq-eqb, true-eqb}
 use Rattle.std.proofs.lemmas.Bool.Decides.{nat_tests}
 use Rattle.fault.specs.declared.kinds.SessionFault.{SessionFault}
 use Rattle.fault.specs.declared.kinds.SheetFault.{SheetFault}
@@ -32,6 +32,13 @@ module _ (p : Parts) (l : Limits p) (o : List ℕ) (lo : ciphertext_limit ≤ le
   empty_by : (b : Bool) (e : Refusal SessionFault) → eqb (length p.ciphertext) 0 ≡ b → cond b (Some empty) None ≡ Some e → (length p.ciphertext ≡ 0) × (e ≡ empty)
   empty_by true e q s = (true-eqb _ _ (sym q), cc)
   empty_by false e q s = absurd cc
+
+  some_by : (b : Bool) → eqb (length p.ciphertext) 0 ≡ b → cond b (Some empty) None ≡ None → 0 < length p.ciphertext
+  some_by true q s = absurd cc
+  some_by false q s = grind (arith, nat_tests)
+
+  pub fails_none : open_checks p.key p.header p.ciphertext p.tag o ≡ None → 0 < length p.ciphertext
+  fails_none q = some_by (eqb (length p.ciphertext) 0) refl (sym checks_are ∙ q)
 
   pub fails_empty : (e : Refusal SessionFault) → open_checks p.key p.header p.ciphertext p.tag o ≡ Some e → (length p.ciphertext ≡ 0) × (e ≡ empty)
   fails_empty e q = empty_by (eqb (length p.ciphertext) 0) e refl (sym checks_are ∙ q)
@@ -96,7 +103,7 @@ module _ (input : List ℕ) (d : Delivery) (parsed : Parsed input (Ok d)) where
           let q = fails_empty (parts_of d) parsed.0 o lo x ce in
           no_body under listed q.0 (subst (λ (y : Refusal SessionFault). IsRefusal console_faults (within y) f) q.1 (raised_by x (s.refused x ce).0))
       why_by None under listed ce s =
-          ⊎_elim (λ w. no_seal under listed w.1 (raised_by (forged (length (parts_of d).ciphertext)) w.0)) (λ w. no_sheet under listed w.0 w.1 e w.2 f_is) (s.broken ce).why
+          ⊎_elim (λ w. no_seal under listed (fails_none (parts_of d) parsed.0 o lo ce) w.1 (raised_by (forged (length (parts_of d).ciphertext)) w.0)) (λ w. no_sheet under listed w.0 w.1 e w.2 f_is) (s.broken ce).why
 
       why : (u : Option (List ℕ → Functions)) → suite_of d.suite ≡ u → Opens u (Err e) → Refused (parts_of d) f
       why None q s = unlisted q (raised_by (not_listed d.suite) s.0)

@@ -1,3 +1,4 @@
 pub mod Listing
 pub mod Delivering
 pub mod Numbering
+pub mod Choosing

@@ -1,6 +1,6 @@
 -- The report on one delivery, given as bytes: the list of its entries, or its refusal.
-use Rattle.std.specs.Prelude.{◌≡◌, ◌≢◌, ℕ, ◌≤◌, ◌⊎◌, List, [], ◌∷◌, ◌++◌, length, take}
-use Rattle.std.specs.Prelude.{Some, None, Ok, Err, codes, decimal, Result}
+use Rattle.std.specs.Prelude.{◌≡◌, ◌≢◌, ℕ, ◌<◌, ◌≤◌, ◌⊎◌, List, [], ◌∷◌, ◌++◌, length, take}
+use Rattle.std.specs.Prelude.{Some, None, Ok, Err, codes, decimal, Result, All}
 use Rattle.fault.specs.declared.kinds.Layer.TheVariants.{Session as SessionLayer}
 use Rattle.fault.specs.declared.kinds.SessionFault.{SessionFault}
 use Rattle.fault.specs.declared.kinds.SessionFault.TheVariants.{Empty}
@@ -47,14 +47,15 @@ abbrev pub empty : Refusal SessionFault
 empty = refusal Empty 7 SessionLayer 0
 
 -- Why the delivery with the parts p is refused with the fault f: no suite has its number, or its
--- ciphertext is empty, or no message seals to its ciphertext and tag, or the message that does is
--- broken as a sheet.
+-- ciphertext is empty, or it is not but no message seals to it and the tag, or the message that
+-- does is broken as a sheet. Only one of these holds.
 pub data Refused (p : Parts) (f : Placed ConsoleFault) : Type 0 where
   unlisted : suite_of p.suite ≡ None
       → IsRefusal console_faults (within (not_listed p.suite)) f → Refused p f
   no_body : (under : List ℕ → Functions) → suite_of p.suite ≡ Some under
       → length p.ciphertext ≡ 0 → IsRefusal console_faults (within empty) f → Refused p f
   no_seal : (under : List ℕ → Functions) → suite_of p.suite ≡ Some under
+      → 0 < length p.ciphertext
       → ((M : List ℕ) → Seals (under p.key) p.header M p.ciphertext p.tag → ⊥)
       → IsRefusal console_faults (within (forged (length p.ciphertext))) f → Refused p f
   no_sheet : (under : List ℕ → Functions) → suite_of p.suite ≡ Some under
@@ -67,7 +68,7 @@ pub data RefusedInput (input : List ℕ) (f : Placed ConsoleFault) : Type 0 wher
       → IsRefusal console_faults (malformed (length input)) f → RefusedInput input f
   delivery : (p : Parts) → Limits p → wire p ≡ input → Refused p f → RefusedInput input f
 
--- What judging an input answers: n bytes of the buffer o' are the sheet of the list that it
+-- What judging an input answers: the first n bytes of the buffer o' are the sheet of the list that it
 -- delivers; or why it is refused, and then it delivers no list.
 abbrev pub Judged : (input o' : List ℕ) → Result ℕ (Placed ConsoleFault) → Type 0
 Judged input o' (Ok n) =
@@ -86,3 +87,8 @@ Printed input text =
     ((es : List Item) × DeliversOnly input es × (text ≡ list_of es))
     ⊎ ((f : Placed ConsoleFault) × ((es : List Item) → Delivers input es → ⊥)
     × RefusedInput input f × (text ≡ refusal_line f))
+
+-- One input has one text: it is not for the program to choose.
+abbrev pub PrintedLaw : Type 0
+PrintedLaw = (input s t : List ℕ) → All (λ b. b < 256) input
+    → Printed input s → Printed input t → s ≡ t

@@ -9,4 +9,4 @@ mod lines;
 mod printing;
 mod refusals;
 
-pub use printing::{print, run};
+pub use printing::{print, printed_stands, run};

@@ -1,7 +1,7 @@
 //! From an input to what is printed for it.
 ghost use Rattle.std.specs.Prelude.{◌≤◌, ℕ, List, length};
 ghost use Rattle.streams.specs.Streams.{Wrote};
-ghost use Rattle.report.specs.Report.{Judged, Printed};
+ghost use Rattle.report.specs.Report.{Judged, Printed, PrintedLaw};
 ghost use Rattle.report.specs.Runs.{Ran};
 
 use crate::lines::write_lines;
@@ -39,6 +39,13 @@ pub fn print<W: Write>(input: &[u8], output: &mut W) -> io::Result<()>
         Ok(len) => write_lines(output, &opened[..len]),
         Err(refused) => put(output, line_of(refused).as_slice()),
     }
+}
+
+/// A theorem: what is printed for an input is one text.
+pub fn printed_stands() -> u8
+    ensures { PrintedLaw }
+{
+    0
 }
 
 /// Reads an input and writes what is printed for it. No more than `INPUT_LIMIT` bytes are read, one

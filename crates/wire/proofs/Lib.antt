@@ -1,2 +1,2 @@
 mod Pieces
-mod Whole
+pub mod Whole
