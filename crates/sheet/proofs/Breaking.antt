@@ -27,16 +27,6 @@ either : {G : Type 0} (b : Bool) → (b ≡ true → G) → (b ≡ false → G) 
 either true t f = t refl
 either false t f = f refl
 
-abbrev same_bool : Bool → Bool → Bool
-same_bool true b = b
-same_bool false b = not b
-
-same_is : (a b : Bool) → same_bool a b ≡ true → a ≡ b
-same_is true true e = refl
-same_is true false e = absurd (false_true e)
-same_is false true e = absurd (false_true e)
-same_is false false e = refl
-
 -- ---- the bits of a map
 
 fails_from : (t : ℕ → Bool) (a n : ℕ) → list_all t (range_with_len a n) ≡ false → (k : ℕ) × (a ≤ k) × (k < a + n) × (t k ≡ false)
@@ -52,15 +42,6 @@ fails_at : (t : ℕ → Bool) → all_below t 16 ≡ false → (k : ℕ) × (k <
 unfolding all_below
 fails_at t e = let r = fails_from t 0 16 e in (r.0, omega (arith, r.2), r.3)
 
--- the rows of the table by their numbers
-unknown_row : (k : ℕ) → k < 16 → is_unknown (row_of k).need ≡ leb 6 k
-unfolding row_of all_below
-unknown_row k l = same_is _ _ (all_at (λ i. same_bool (is_unknown (row_of i).need) (leb 6 i)) 16 k refl l)
-
-required_row : (k : ℕ) → k < 16 → is_required (row_of k).need ≡ (eqb k 0 || eqb k 2)
-unfolding row_of all_below
-required_row k l = same_is _ _ (all_at (λ i. same_bool (is_required (row_of i).need) (eqb i 0 || eqb i 2)) 16 k refl l)
-
 not_both : (a b : Bool) → not (a && b) ≡ false → (a ≡ true) × (b ≡ true)
 not_both true true e = (refl, refl)
 not_both true false e = absurd (true_false e)
@@ -75,27 +56,19 @@ unknown_from : (m : ℕ) → all_below (known_at m) 16 ≡ false → HasUnknown 
 unknown_from m e =
     let f = fails_at (known_at m) e in
     let b = not_both (is_set m f.0) (is_unknown (row_of f.0).need) f.2 in
-    let q : leb 6 f.0 ≡ true = sym (unknown_row f.0 f.1) ∙ b.1 in
-    (f.0, grind (arith, nat_tests), f.1, b.0)
+    (f.0, f.1, b.1, b.0)
 
 unknown_fails : (m : ℕ) → HasUnknown m → all_below (known_at m) 16 ≡ true → ⊥
-unknown_fails m (k, s, l, on) e =
-    let u : is_unknown (row_of k).need ≡ true = unknown_row k l ∙ le-leb 6 k s in
-    true_false (sym (all_at (known_at m) 16 k e l) ∙ ap₂ (λ a b. not (a && b)) on u)
+unknown_fails m (k, l, u, on) e = true_false (sym (all_at (known_at m) 16 k e l) ∙ ap₂ (λ a b. not (a && b)) on u)
 
 lacks_from : (m : ℕ) → all_below (complete_at m) 16 ≡ false → LacksBit m
 lacks_from m e =
     let f = fails_at (complete_at m) e in
     let b = neither (is_set m f.0) (is_required (row_of f.0).need) f.2 in
-    let q : (eqb f.0 0 || eqb f.0 2) ≡ true = sym (required_row f.0 f.1) ∙ b.1 in
-    either (eqb f.0 0)
-    (λ z. inl (subst (λ k. is_set m k ≡ false) (true-eqb f.0 0 (sym z)) b.0))
-    (λ z. inr (subst (λ k. is_set m k ≡ false) (true-eqb f.0 2 (sym (ap (λ t. t || eqb f.0 2) (sym z) ∙ q))) b.0))
+    (f.0, f.1, b.1, b.0)
 
 lacks_fails : (m : ℕ) → LacksBit m → all_below (complete_at m) 16 ≡ true → ⊥
-unfolding row_of
-lacks_fails m (inl z) e = true_false (sym (all_at (complete_at m) 16 0 e (omega arith)) ∙ ap (λ b. b || false) z)
-lacks_fails m (inr z) e = true_false (sym (all_at (complete_at m) 16 2 e (omega arith)) ∙ ap (λ b. b || false) z)
+lacks_fails m (k, l, r, off) e = true_false (sym (all_at (complete_at m) 16 k e l) ∙ ap₂ (λ a b. a || not b) off r)
 
 -- ---- one field, its value forgotten
 
@@ -280,7 +253,8 @@ forget_fault (fault g) f e = ap (λ x. fault x) (fault_same g f e)
 
 -- a bit that does not lack
 has_bits : (m : ℕ) → (LacksBit m → ⊥) → (is_set m 0 ≡ true) × (is_set m 2 ≡ true)
-has_bits m n = (either (is_set m 0) (λ e. e) (λ e. absurd (n (inl e))), either (is_set m 2) (λ e. e) (λ e. absurd (n (inr e))))
+unfolding row_of
+has_bits m n = (either (is_set m 0) (λ e. e) (λ e. absurd (n (0, omega arith, refl, e))), either (is_set m 2) (λ e. e) (λ e. absurd (n (2, omega arith, refl, e))))
 
 all_known : (m : ℕ) → (HasUnknown m → ⊥) → all_below (known_at m) 16 ≡ true
 all_known m n = either (all_below (known_at m) 16) (λ e. e) (λ e. absurd (n (unknown_from m e)))

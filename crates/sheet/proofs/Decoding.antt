@@ -1,5 +1,5 @@
 -- Entries and sheets: an entry is read exactly where its bytes stand, and a sheet has one list of entries.
-use Rattle.std.proofs.Common.{◌≡◌, ℕ, ◌+◌, ◌<◌, ◌≤◌, Bool, List, [], ◌∷◌, ◌++◌, length, drop, is_some, Some, None, Ok, Option, sym, refl, ap, ◌∙◌, subst, append_assoc, append-nil, inl, inr, arith, length-append, length-drop}
+use Rattle.std.proofs.Common.{◌≡◌, ℕ, ◌+◌, ◌<◌, ◌≤◌, ◌⊎◌, Bool, List, [], ◌∷◌, ◌++◌, length, drop, is_some, Some, None, Ok, Option, sym, refl, ap, ◌∙◌, subst, append_assoc, append-nil, inl, inr, arith, length-append, length-drop}
 use Rattle.std.proofs.lemmas.List.{drop_all, length_push}
 use Rattle.std.proofs.lemmas.List.Elements.{All-drop}
 use Rattle.fault.specs.declared.kinds.SheetFault.{SheetFault}
@@ -9,7 +9,7 @@ use Rattle.sheet.specs.Table.{is_set}
 use Rattle.sheet.specs.Entries.{Item, Good, Held, two, one, text, counted, held, item_map, map_of, bytes, sheet_of, AllGood, Lent, item_of}
 use Rattle.sheet.specs.Reading.{Read, got, fault, next, read_code, read_number, read_landing, read_drawing, read_held, read_map, item, read_fields, read_item}
 use Rattle.sheet.specs.Calls.{Follows, Holds, Broken}
-use Rattle.sheet.specs.Laws.{ReadingLaw, UniqueLaw, HoldsLaw, BrokenLaw}
+use Rattle.sheet.specs.Laws.{HasEntry, HasRefusal, EntryLaw, ReadingLaw, UniqueLaw, HoldsLaw, BrokenLaw}
 use Rattle.sheet.specs.Breaks.{RefusedAt}
 use Rattle.sheet.proofs.Breaking.{refusals, first}
 use Rattle.sheet.proofs.Fields.{Octets, octets_right, fault_got, got_same, next_inv, Lawful, code_lawful, count_lawful, months_lawful, landing_lawful, drawing_lawful, held_back, held_sound, map_back, map_flags, map_sound}
@@ -80,6 +80,17 @@ sound bs e rest h q =
 
 pub reading : ReadingLaw
 reading bs e rest o = (sound bs e rest o, λ g. ap read_item g.1 ∙ back e rest g.0)
+
+-- an entry or a refusal
+entry_by : (p : ℕ) (bs : List ℕ) → Octets bs → (o : Read Item) → read_item bs ≡ o → HasEntry bs ⊎ HasRefusal p bs
+entry_by p bs o (got e rest) q = let s = sound bs e rest o q in inl (e, rest, s.0, s.1)
+entry_by p bs o (fault f) q = let g : Placed SheetFault = record { fault = f; place = p } in inr (g, (refusals p bs g o).0 (q, refl))
+
+pub entry : EntryLaw
+entry p bs o = (
+  entry_by p bs o (read_item bs) refl,
+  λ h r. fault_got r.0.fault h.0 h.1 (sym ((refusals p bs r.0 o).1 r.1).0 ∙ ap read_item h.3 ∙ back h.0 h.1 h.2),
+)
 
 -- two readings of the same bytes
 same : (e f : Item) (r s : List ℕ) → Good e → Good f → bytes e ++ r ≡ bytes f ++ s → (e ≡ f) × (r ≡ s)

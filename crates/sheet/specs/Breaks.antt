@@ -1,6 +1,6 @@
 -- Where no good entry stands at the front of some bytes: the rule that they break first, in the
 -- order of an entry's bytes, and the refusal that it has.
-use Rattle.std.specs.Prelude.{◌≡◌, ℕ, ◌<◌, ◌≤◌, ◌⊎◌, true, false, List}
+use Rattle.std.specs.Prelude.{◌≡◌, ℕ, ◌^◌, ◌<◌, ◌⊎◌, true, false, List}
 use Rattle.std.specs.Prelude.{[], ◌∷◌, ◌++◌, filter, length, ℤ, pos}
 use Rattle.fault.specs.declared.kinds.SheetFault.{SheetFault}
 use Rattle.fault.specs.declared.kinds.SheetFault.TheVariants.{Cut, UnknownBit, Missing, Value}
@@ -10,7 +10,7 @@ use Rattle.fault.specs.Refusals.{IsRefusal, refusal, sheet_faults}
 use Rattle.sheet.specs.declared.entry.Kind.{Kind}
 use Rattle.sheet.specs.declared.entry.Kind.TheVariants.{Code, Parent, Count}
 use Rattle.sheet.specs.declared.entry.Kind.TheVariants.{Landing, Months, Drawing}
-use Rattle.sheet.specs.Table.{bit_of, in_row, row_of, is_set}
+use Rattle.sheet.specs.Table.{bit_of, in_row, row_of, is_set, is_unknown, is_required, map_bits}
 use Rattle.sheet.specs.Entries.{CodeForm, NumberForm, LandingForm, DrawingForm, two, one, counted}
 
 -- the bytes s are a field of a kind, and it has its form
@@ -37,7 +37,8 @@ abbrev pub IsCut : Kind → List ℕ → Type 0
 IsCut Drawing r = IsDrawingCut r
 IsCut k r = length r < (row_of (bit_of k)).width
 
--- the bytes r hold a field of this kind to its end, and it has not its form
+-- The bytes r do not end before the field does, and do not begin with one of its form. A drawing
+-- whose length is outside its row is so, however many bytes follow.
 pub record IsOutside (k : Kind) (r : List ℕ) : Type 0 where
   pub whole : IsCut k r → ⊥
   pub formless : (s t : List ℕ) → r ≡ s ++ t → IsField k s → ⊥
@@ -54,13 +55,15 @@ pub record AtField (P : Kind → List ℕ → Type 0) (ks : List Kind) (bs : Lis
   pub good : AreFields before front
   pub broken : P kind rest
 
--- a bit is set that is of no kind
+-- a bit is set that the table does not know
 abbrev pub HasUnknown : ℕ → Type 0
-HasUnknown m = (k : ℕ) × (6 ≤ k) × (k < 16) × (is_set m k ≡ true)
+HasUnknown m =
+    (k : ℕ) × (k < map_bits) × (is_unknown (row_of k).need ≡ true) × (is_set m k ≡ true)
 
--- the bit of the code or of the count is missing
+-- a bit that the table requires is not set
 abbrev pub LacksBit : ℕ → Type 0
-LacksBit m = (is_set m 0 ≡ false) ⊎ (is_set m 2 ≡ false)
+LacksBit m =
+    (k : ℕ) × (k < map_bits) × (is_required (row_of k).need ≡ true) × (is_set m k ≡ false)
 
 -- the kinds of the fields that a map tells, in the order of their bits
 abbrev pub kinds_of : ℕ → List Kind
@@ -69,7 +72,7 @@ kinds_of m =
 
 -- the bytes begin with a map, and P holds of it and of the bytes behind it
 abbrev pub HasMap : (ℕ → List ℕ → Type 0) → List ℕ → Type 0
-HasMap P bs = (m : ℕ) × (rest : List ℕ) × (m < 65536) × (bs ≡ two m ++ rest) × P m rest
+HasMap P bs = (m : ℕ) × (rest : List ℕ) × (m < 2 ^ map_bits) × (bs ≡ two m ++ rest) × P m rest
 
 -- ... a map with every bit as it should be, and P holds of one of its fields
 abbrev pub FailsAt : (Kind → List ℕ → Type 0) → List ℕ → Type 0

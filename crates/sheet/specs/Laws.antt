@@ -1,5 +1,5 @@
 -- The laws of the sheet's definitions.
-use Rattle.std.specs.Prelude.{◌≡◌, ℕ, ◌+◌, ◌<◌, ◌≤◌, ◌↔◌, List, [], ◌∷◌}
+use Rattle.std.specs.Prelude.{◌≡◌, ℕ, ◌+◌, ◌<◌, ◌≤◌, ◌⊎◌, ◌↔◌, List, [], ◌∷◌}
 use Rattle.std.specs.Prelude.{◌++◌, length, take, drop, All, Ok, Err, Result}
 use Rattle.fault.specs.declared.kinds.SheetFault.{SheetFault}
 use Rattle.fault.specs.declared.kinds.Placed.{Placed}
@@ -7,6 +7,19 @@ use Rattle.sheet.specs.Entries.{Item, Good, AllGood, bytes, sheet_of}
 use Rattle.sheet.specs.Reading.{got, fault, read_item}
 use Rattle.sheet.specs.Breaks.{RefusedAt}
 use Rattle.sheet.specs.Calls.{NotWritten, Wrote, Holds, Broken}
+
+-- a good entry stands at the front of the bytes
+abbrev pub HasEntry : List ℕ → Type 0
+HasEntry bs = (e : Item) × (rest : List ℕ) × Good e × (bs ≡ bytes e ++ rest)
+
+-- the bytes, at place p, are refused
+abbrev pub HasRefusal : (p : ℕ) → List ℕ → Type 0
+HasRefusal p bs = (f : Placed SheetFault) × RefusedAt p bs f
+
+-- At any place, either a good entry stands or the bytes are refused, and never both.
+abbrev pub EntryLaw : Type 0
+EntryLaw = (p : ℕ) (bs : List ℕ) → All (λ b. b < 256) bs
+    → (HasEntry bs ⊎ HasRefusal p bs) × (HasEntry bs → HasRefusal p bs → ⊥)
 
 -- An entry is read from the front of some bytes exactly where its bytes stand there.
 abbrev pub ReadingLaw : Type 0

@@ -1,13 +1,14 @@
--- Reading one entry from the front of some bytes: what it says and the bytes behind it, or a fault.
--- `Laws` states that an entry is read exactly where its bytes stand, and that the fault is that of
--- the rule which is broken first, as `Breaks` has it.
+-- Reading one entry from the front of some bytes: what it says and the bytes behind it, or a fault,
+-- as a parser. `Laws` states that an entry is read exactly where its bytes stand, that the fault is
+-- that of the rule which is broken first, as `Breaks` has it, and, with no word of a parser, that
+-- one of the two is so for any bytes and never both.
 use Rattle.std.specs.Prelude.{ℕ, ◌+◌, ◌*◌, Bool, true, false, List, length, take}
 use Rattle.std.specs.Prelude.{drop, ℤ, pos, Some, None, Option, nat_le, slice_index}
 use Rattle.std.proofs.Common.{to_z}
 use Rattle.std.specs.Int.{w8}
 use Rattle.fault.specs.declared.kinds.SheetFault.{SheetFault}
 use Rattle.fault.specs.declared.kinds.SheetFault.TheVariants.{Cut, UnknownBit, Missing, Value}
-use Rattle.sheet.specs.Table.{row_of, in_row, is_set, known_at, complete_at, all_below}
+use Rattle.sheet.specs.Table.{row_of, in_row, is_set, known_at, complete_at, all_below, map_bits}
 use Rattle.sheet.specs.Entries.{Item, signs}
 
 -- a value and what is left, or a refusal
@@ -63,8 +64,8 @@ abbrev pub read_map : List ℕ → Read ℕ
 read_map bs =
     next (some 2 bs)
     (λ s rest.
-    check (all_below (known_at (two_of s)) 16) UnknownBit
-    (check (all_below (complete_at (two_of s)) 16) Missing (got (two_of s) rest)))
+    check (all_below (known_at (two_of s)) map_bits) UnknownBit
+    (check (all_below (complete_at (two_of s)) map_bits) Missing (got (two_of s) rest)))
 
 abbrev pub item : List ℕ → Option (List ℕ) → ℕ → Option ℤ → Option ℕ → Option (List ℕ) → Item
 item c p n l m d = record { code = c; parent = p; count = n; landing = l; months = m; drawing = d }

@@ -28,6 +28,10 @@ rows = record { width = 8; low = pos 0; high = pos 0; need = Required }
 unfoldable pub row_of : ℕ → Row
 row_of k = slice_index_or rows k unknown
 
+-- how many bits a map has
+abbrev pub map_bits : ℕ
+map_bits = 16
+
 -- the bit of a kind of field
 abbrev pub bit_of : Kind → ℕ
 bit_of Code = 0

@@ -1,7 +1,7 @@
 //! The test of a whole sheet.
 ghost use Rattle.sheet.specs.Calls.{Tested};
-ghost use Rattle.sheet.specs.Laws.{BrokenLaw, FirstLaw, HoldsLaw, ReadingLaw, RefusalLaw};
-ghost use Rattle.sheet.specs.Laws.{UniqueLaw};
+ghost use Rattle.sheet.specs.Laws.{BrokenLaw, EntryLaw, FirstLaw, HoldsLaw, ReadingLaw};
+ghost use Rattle.sheet.specs.Laws.{RefusalLaw, UniqueLaw};
 
 use crate::reader::Reader;
 use fault::kinds::{Placed, SheetFault};
@@ -28,10 +28,12 @@ pub fn test(sheet: &[u8]) -> Result<usize, Placed<SheetFault>>
     Ok(count)
 }
 
-/// An entry is read exactly where its bytes stand; where none is read, the refusal is the one rule
-/// that is broken first; no two lists of entries have the same sheet; a sheet that holds a list is
-/// not broken, and a broken sheet has one refusal.
+/// At any place a good entry stands or the bytes are refused, never both. An entry is read exactly
+/// where its bytes stand; where none is read, the refusal is the one rule that is broken first; no
+/// two lists of entries have the same sheet; a sheet that holds a list is not broken, and a broken
+/// sheet has one refusal.
 pub fn reading_stands() -> u8
+    ensures entry { EntryLaw }
     ensures reads { ReadingLaw }
     ensures refuses { RefusalLaw }
     ensures first { FirstLaw }
