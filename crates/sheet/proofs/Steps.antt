@@ -4,7 +4,8 @@ use Rattle.std.proofs.lemmas.List.{drop-drop, take_all}
 use Rattle.fault.specs.declared.kinds.SheetFault.{SheetFault}
 use Rattle.sheet.specs.Entries.{Held}
 use Rattle.sheet.specs.Reading.{Read, check}
-use Rattle.sheet.specs.Calls.{Ends, HeldOr, HeldTold, Lies}
+use Rattle.sheet.specs.Calls.{Lies}
+use Rattle.sheet.specs.Inner.{Ends, HeldOr, HeldTold}
 
 pub check_passes : {X : Type 0} (b : Bool) (f : SheetFault) (r : Read X) → b ≡ true → check b f r ≡ r
 check_passes b f r e = ap (λ t. check t f r) e

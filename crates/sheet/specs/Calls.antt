@@ -1,5 +1,5 @@
 -- What the sheet's calls do: which answer or refusal they give, and what the buffer then holds.
-use Rattle.std.specs.Prelude.{◌≡◌, ℕ, ◌+◌, ◌-◌, ◌<◌, ◌≤◌, ◌⊎◌, Bool, true, false, List, [], ◌∷◌}
+use Rattle.std.specs.Prelude.{◌≡◌, ℕ, ◌+◌, ◌-◌, ◌<◌, ◌≤◌, ◌⊎◌, List, [], ◌∷◌}
 use Rattle.std.specs.Prelude.{◌++◌, length, take, drop, Some, None, Ok, Err, Option, Result}
 use Rattle.std.specs.Borrow.{Bor}
 use Rattle.std.specs.Option.{option_map}
@@ -15,7 +15,6 @@ use Rattle.sheet.specs.declared.entry.Field.TheVariants.{Landing, Months, Drawin
 use Rattle.sheet.specs.declared.entry.Kind.{Kind}
 use Rattle.sheet.specs.declared.entry.Kind.TheVariants as kind
 use Rattle.sheet.specs.Entries.{Item, Held, Good, AllGood, bytes, sheet_of, Lent, item_of}
-use Rattle.sheet.specs.Reading.{Read, got, fault}
 use Rattle.sheet.specs.Breaks.{RefusedAt}
 
 -- the refusals of the calls that write, at a place: a value is outside its form; there is no room
@@ -51,26 +50,6 @@ WroteAs old new at e b (Err f) = (new ≡ old) × NotWritten (length old) at e b
 abbrev pub Wrote : (old new : List ℕ) (at : ℕ) (e : Item) → Result ℕ (Placed SheetFault) → Type 0
 Wrote old new at e r = WroteAs old new at e (bytes e) r
 
--- What a function that reads from the front of some bytes answers: the value, and the bytes behind.
-abbrev pub Told : {T X : Type 0} → (T → X) → Read X → Result (T × Bor (List ℕ)) SheetFault → Type 0
-Told f o (Ok x) = o ≡ got (f x.0) x.1.now
-Told f o (Err e) = o ≡ fault e
-
--- The same of a field that is read only if its bit is set, where P says what the reading of such a
--- field may answer.
-abbrev pub HeldOr : {T : Type 0} → Bool → Bor (List ℕ)
-    → (Result (T × Bor (List ℕ)) SheetFault → Type 0)
-    → Result (Option T × Bor (List ℕ)) SheetFault → Type 0
-HeldOr false b P r = r ≡ Ok (None, b)
-HeldOr true b P (Ok (None, rest)) = ⊥
-HeldOr true b P (Ok (Some a, rest)) = P (Ok (a, rest))
-HeldOr true b P (Err e) = P (Err e)
-
-pub record HeldTold {T : Type 0} (on : Bool) (b : Bor (List ℕ))
-    (P : Result (T × Bor (List ℕ)) SheetFault → Type 0)
-    (r : Result (Option T × Bor (List ℕ)) SheetFault) : Type 0 where
-  pub told : HeldOr on b P r
-
 -- The next call of a reader at place p of the sheet s, which is at place q after it: the end
 -- exactly at the sheet's end, or the entry that stands at p, or the refusal of what stands there,
 -- which leaves the place.
@@ -85,12 +64,6 @@ Answered s p q (Err f) = RefusedAt p (drop p s) f × (p < length s) × (q ≡ p)
 -- offset in it
 abbrev pub Lies : (b : ℕ × ℕ) (n : ℕ) → Bor (List ℕ) → Type 0
 Lies b n s = s.ref_ptr ≡ (b.0, b.1 + n)
-
--- the bytes r are the end of the bytes b, in memory too
-pub record Ends (b r : Bor (List ℕ)) : Type 0 where
-  pub long : length r.now ≤ length b.now
-  pub is : r.now ≡ drop (length b.now - length r.now) b.now
-  pub lies : Lies b.ref_ptr (length b.now - length r.now) r
 
 -- The codes and the drawing of an entry that stands from p to q are those very parts of the sheet.
 pub record InPlace (b : ℕ × ℕ) (p q : ℕ) (e : Lent) : Type 0 where
@@ -119,7 +92,7 @@ last_of old (Ok None) = old
 last_of old (Ok (Some e)) = Some e
 last_of old (Err f) = old
 
--- a field of an entry, or absent; absent also where no entry was answered
+-- a field of an entry, or absent
 abbrev pub field_of : {T : Type 0} → Kind → Entry T → Option (Field T)
 field_of kind.Code e = Some (Code e.code)
 field_of kind.Parent e = option_map Parent e.parent
@@ -128,6 +101,7 @@ field_of kind.Landing e = option_map Landing e.landing
 field_of kind.Months e = option_map Months e.months
 field_of kind.Drawing e = option_map Drawing e.drawing
 
+-- a field of the entry last answered; absent also where none was answered
 abbrev pub last_field : {T : Type 0} → Kind → Option (Entry T) → Option (Field T)
 last_field k None = None
 last_field k (Some e) = field_of k e

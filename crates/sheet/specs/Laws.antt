@@ -84,11 +84,6 @@ pub record NotAll (es : List Item) (room : ℕ) (f : Placed SheetFault) : Type 0
   pub fits : length (sheet_of before) ≤ room
   pub refused : NotWritten room (length (sheet_of before)) entry (bytes entry) f
 
--- Whether it can be written there, and where it ends then.
-abbrev pub Measured : (es : List Item) (room : ℕ) → Result ℕ (Placed SheetFault) → Type 0
-Measured es room (Ok n) = AllGood es × (n ≡ length (sheet_of es)) × (n ≤ room)
-Measured es room (Err f) = NotAll es room f
-
 -- Writing the whole list es from the start of the buffer `old`: its sheet, which is n bytes long,
 -- or nothing.
 abbrev pub WroteAll : (es : List Item) (old new : List ℕ) → Result ℕ (Placed SheetFault) → Type 0

@@ -5,3 +5,4 @@ pub mod Reading
 pub mod Breaks
 pub mod Calls
 pub mod Laws
+pub mod Inner

@@ -4,7 +4,8 @@ ghost use Rattle.sheet.specs.Table.{bit_of, row_of};
 ghost use Rattle.sheet.specs.Entries.{item_of};
 ghost use Rattle.sheet.specs.Reading.{read_code, read_drawing, read_item};
 ghost use Rattle.sheet.specs.Reading.{read_landing, read_map, read_number, some};
-ghost use Rattle.sheet.specs.Calls.{Ends, HeldTold, InPlace, Lies, Told};
+ghost use Rattle.sheet.specs.Calls.{InPlace, Lies};
+ghost use Rattle.sheet.specs.Inner.{Ends, HeldTold, Told};
 
 use crate::entry::{Entry, Kind};
 use crate::forms::are_signs;

@@ -5,7 +5,8 @@ ghost use Rattle.sheet.specs.Table.{set_below};
 ghost use Rattle.sheet.specs.Entries.{DrawingForm, Good, Held, bytes, counted, field_count, held};
 ghost use Rattle.sheet.specs.Entries.{item_map, item_of};
 ghost use Rattle.sheet.specs.Calls.{Put, Wrote};
-ghost use Rattle.sheet.specs.Laws.{Measured, SheetLaw, WritingLaw, WroteAll, WrittenFromStart};
+ghost use Rattle.sheet.specs.Laws.{SheetLaw, WritingLaw, WroteAll, WrittenFromStart};
+ghost use Rattle.sheet.specs.Inner.{Measured};
 
 use crate::entry::Entry;
 use crate::forms::is_good;
@@ -13,8 +14,11 @@ use crate::map::map_of;
 use buffer::Buffer;
 use fault::kinds::{Placed, SheetFault};
 
-// The bytes of an entry, if it is good; they are 56 at most.
-fn encode(e: Entry<&[u8]>) -> Buffer<56>
+// The most bytes that an entry has.
+const ENTRY_LIMIT: usize = 56;
+
+// The bytes of an entry, if it is good.
+fn encode(e: Entry<&[u8]>) -> Buffer<ENTRY_LIMIT>
     requires { Good (item_of e) }
     ensures { result ≡ bytes (item_of e.entry) }
 {
@@ -36,10 +40,10 @@ fn encode(e: Entry<&[u8]>) -> Buffer<56>
 }
 
 // A drawing behind its length, if there is one, behind all that was put before.
-fn put_drawing(out: &mut Buffer<56>, drawing: Option<&[u8]>)
+fn put_drawing(out: &mut Buffer<ENTRY_LIMIT>, drawing: Option<&[u8]>)
     requires { Held DrawingForm (option_map (λ s. s.now) drawing) }
-    ensures { (all : List ℕ) → out.old ≡ take 56 all
-        → out.new ≡ take 56 (all ++ held counted (option_map (λ s. s.now) drawing.entry)) }
+    ensures { (all : List ℕ) → out.old ≡ take ENTRY_LIMIT all
+        → out.new ≡ take ENTRY_LIMIT (all ++ held counted (option_map (λ s. s.now) drawing.entry)) }
 {
     if let Some(drawing) = drawing {
         // A drawing of good form has at most 32 bytes; `try_from` would add a refusal that cannot

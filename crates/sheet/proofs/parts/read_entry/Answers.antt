@@ -1,6 +1,7 @@
 use Rattle.std.proofs.Common.{◌≡◌, ◌+◌, ◌-◌, ◌≤◌, ℕ, List, Bor, ℤ, length, refl, arith, rules}
 use Rattle.sheet.specs.Table.{row_of}
-use Rattle.sheet.specs.Calls.{Ends, Lies}
+use Rattle.sheet.specs.Calls.{Lies}
+use Rattle.sheet.specs.Inner.{Ends}
 use Rattle.sheet.proofs.Steps.{ends_next, lies_on, lies_in, lies_first, held_map, held_ends}
 use Rattle.sheet.proofs.parts.read_entry.Goals as goal
 
