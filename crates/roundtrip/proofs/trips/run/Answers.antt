@@ -1,0 +1,22 @@
+use Rattle.std.proofs.Common.{refl}
+use Rattle.std.proofs.lemmas.Result.{on_ok_weaker}
+use Rattle.suites.specs.Shaft.{shaft}
+use Rattle.suites.specs.PoetAes.{poet_aes_four, poet_aes_ten}
+use Rattle.suites.specs.Mirror.{mirror}
+use Rattle.roundtrip.proofs.trips.run.Goals as goal
+
+pub returns : goal.returns
+returns g c =
+    on_ok_weaker c.write.result
+    (λ written. (
+      c.under-shaft.result,
+      c.under-four.result,
+      c.under-ten.result,
+      c.under-mirror.result,
+      (shaft, refl, c.under-shaft.ensures),
+      (poet_aes_four, refl, c.under-four.ensures),
+      (poet_aes_ten, refl, c.under-ten.ensures),
+      (mirror, refl, c.under-mirror.ensures),
+      written,
+    ))
+    c.write.ensures.bytes
