@@ -2,22 +2,34 @@
 //! answered.
 #![tactic(auto)]
 
+mod lines;
 mod playing;
 mod report;
-mod text;
+mod script;
 
+use anyhow::anyhow;
 use playing::run;
 use std::env;
+use std::io::IsTerminal;
 
 const HELP: &'static str =
     "replay reads a session from standard input, one call to a line, and prints what each answered:
-suite NUMBER, key BYTES, header BYTES, seal or open, body ROOM BYTES, and finish with the tag or none.
+suite NUMBER, key BYTES, header BYTES, seal or open, body ROOM BYTES, and finish with the tag of
+an opening. It takes no arguments but --help.
 ";
 
 fn main(rt: HostRuntime) -> anyhow::Result<()> {
-    if env::args(&rt)?.skip(1).count() > 0 {
+    if let Some(word) = env::args(&rt)?.nth(1) {
+        let word = word.as_str();
+        if word != "--help" {
+            return Err(anyhow!("replay takes no word but --help, and was given {word}"));
+        }
         print!(rt; "{HELP}")?;
         return Ok(());
     }
-    run(rt.alloc(), rt.reader(), &mut rt.stdout())
+    let mut reader = rt.stdin();
+    if reader.is_terminal() {
+        eprintln!(rt; "replay reads a session from the terminal, to its end (control-D)")?;
+    }
+    run(rt.alloc(), &mut reader, &mut rt.stdout())
 }

@@ -1,72 +1,149 @@
-//! From the lines of a session to what is printed of it.
-use crate::report::report;
-use crate::text::{Body, Piece, Written};
-use fault::kinds::{KeyFault, Placed};
-use script::{Course, Stretch, play};
-use session::KeyPlace;
-use std::alloc::Global;
-use std::io::{BufRead, Write};
+//! From an input to what is written for it.
+ghost use Rattle.std.specs.Prelude.{◌≡◌, map, IfOk, vec_items};
+ghost use Rattle.std.specs.Option.{option_map};
+ghost use Rattle.std.specs.Str.Lines.{lines};
+ghost use Rattle.session.specs.Calls.{key_check};
+ghost use Rattle.replay.specs.Lines.{brought_in};
+ghost use Rattle.replay.specs.Scripts.{course_in, unwritten, written_in};
+ghost use Rattle.replay.specs.Outcomes as outcomes;
+ghost use Rattle.replay.specs.Runs.{Ran};
+ghost use Rattle.suites.specs.Listed.{listed};
+
+use crate::lines::{Piece, Unread};
+use crate::report::Outcome;
+use crate::script::{Body, Script};
+use session::keys::KeyPlace;
+use script::play;
+use script::{Course, Stretch};
+use std::alloc::{AllocError, Global};
+use std::io::{Read, Write};
+use std::str::from_utf8;
+use streams::put;
 use suite::Suite;
 use suites::at_listed;
 use suites::listed::Listed;
 
 /// Reads the lines of a session, plays it, and writes what each call answered; or the number of the
-/// first line that breaks a rule, and the rule.
-pub(crate) fn run<R: BufRead + Drop, W: Write>(
+/// first line that breaks a rule, and the rule. Nothing is written before the whole is played.
+///
+/// # Errors
+///
+/// What the reader fails with, or that memory ran out, and then nothing is written; or what the
+/// writer fails with, and then a front of the text is written.
+pub(crate) fn run<R: Read, W: Write>(
     heap: Global,
-    reader: R,
+    reader: &mut R,
     writer: &mut W,
-) -> anyhow::Result<()> {
-    let mut written = Written::new(heap);
-    for (before, line) in reader.lines(heap).enumerate() {
-        if let Err(fault) = written.read(heap, line?.as_str()) {
-            let number = before.saturating_add(1);
-            writeln!(writer, "line {number}: {fault}")?;
-            return Ok(());
+) -> anyhow::Result<()>
+    ensures { Ran (R.remaining reader.old) (R.remaining reader.new)
+        (W.contents writer.old) (W.contents writer.new) result }
+{
+    let mut input = Vec::new(heap);
+    reader.read_to_end(&mut input)?;
+    let outcome = outcome_of(heap, input.as_slice())?;
+    let text = outcome.to_string(heap)?;
+    put(writer, text.as_bytes())?;
+    Ok(())
+}
+
+fn outcome_of(heap: Global, input: &[u8]) -> Result<Outcome, AllocError>
+    ensures { IfOk result (λ o. outcomes.Comes input.now o) }
+{
+    match from_utf8(input) {
+        Ok(text) => of_text(heap, text),
+        Err(_) => Ok(Outcome::NoText),
+    }
+}
+
+fn of_text(heap: Global, text: &str) -> Result<Outcome, AllocError>
+    ensures { IfOk result (λ o. outcomes.ComesWritten
+        (outcomes.written_from 1 unwritten (lines text.now)) o) }
+{
+    let lines = text.lines().collect::<Vec<&str>>(heap)?;
+    of_lines(heap, lines.as_slice())
+}
+
+fn of_lines(heap: Global, lines: &[&str]) -> Result<Outcome, AllocError>
+    ensures { IfOk result (λ o. outcomes.ComesWritten
+        (outcomes.written_from 1 unwritten (map (λ l. l.now) lines.now)) o) }
+{
+    let mut script = Script::new(heap);
+    let mut number = 1;
+    for line in lines {
+        match script.add(heap, line) {
+            Ok(()) => number += 1,
+            Err(Unread::Broken(rule)) => return Ok(Outcome::Broken { line: number, rule }),
+            Err(Unread::Memory) => return Err(AllocError),
         }
     }
-    match Listed::try_from(written.suite) {
-        Ok(listed) => at_listed!(listed, under(heap, writer, &written)),
-        Err(refused) => refuse(writer, refused),
+    of_script(heap, &script)
+}
+
+fn of_script(heap: Global, script: &Script) -> Result<Outcome, AllocError>
+    ensures { IfOk result (λ o. outcomes.ComesListed
+        (listed script.now.suite) (written_in script.now) o) }
+{
+    match Listed::try_from(script.suite) {
+        Ok(listed) => at_listed!(listed, under(heap, script)),
+        Err(refused) => Ok(Outcome::Refused(refused)),
     }
 }
 
 // Fills the key place and plays the session.
-fn under<S: Suite>(heap: Global, writer: &mut impl Write, written: &Written) -> anyhow::Result<()> {
+fn under<S: Suite>(heap: Global, script: &Script) -> Result<Outcome, AllocError>
+    ensures { IfOk result (λ o. outcomes.ComesUnder S.Suite.under
+        (key_check script.now.key.items) (written_in script.now) o) }
+{
     let mut place = KeyPlace::new();
-    if let Err(refused) = place.fill(&written.key) {
-        return refuse(writer, refused);
+    if let Err(refused) = place.fill(script.key.as_slice()) {
+        return Ok(Outcome::Refused(refused));
     }
-    let headers = written
-        .headers
+    let headers = headers_of(heap, script.headers.as_slice())?;
+    let bodies = bodies_of(heap, pieces(&script.body))?;
+    let course = course(&script.body, bodies.as_slice());
+    let (log, end) = play::<S>(heap, &place, headers.as_slice(), course)?;
+    Ok(Outcome::Played(log, end))
+}
+
+// A header call for each of these.
+fn headers_of(heap: Global, headers: &[Vec<u8>]) -> Result<Vec<Stretch<'_>>, AllocError>
+    ensures { IfOk result (λ v. map (λ s. s.bytes.now) v.items
+        ≡ map (λ h. vec_items h) headers.now) }
+{
+    headers
         .iter()
         .map(|bytes| Stretch { bytes, room: 0 })
-        .collect::<Vec<Stretch<'_>>>(heap)?;
-    let bodies = pieces(&written.body)
+        .collect::<Vec<Stretch<'_>>>(heap)
+}
+
+// A body call for each of these.
+fn bodies_of(heap: Global, pieces: &[Piece]) -> Result<Vec<Stretch<'_>>, AllocError>
+    ensures { IfOk result (λ v. map outcomes.brought_by v.items
+        ≡ map brought_in pieces.now) }
+{
+    pieces
         .iter()
         .map(|piece| Stretch {
             bytes: &piece.bytes,
             room: piece.room,
         })
-        .collect::<Vec<Stretch<'_>>>(heap)?;
-    let played = play::<S>(heap, &place, &headers, course(&written.body, &bodies))?;
-    report(writer, played)
+        .collect::<Vec<Stretch<'_>>>(heap)
 }
 
-// Writes a refusal of the key layer; no call was made then.
-fn refuse<W: Write>(writer: &mut W, refused: Placed<KeyFault>) -> anyhow::Result<()> {
-    writeln!(writer, "{refused}")?;
-    Ok(())
-}
-
-fn pieces(body: &Option<Body>) -> &[Piece] {
+fn pieces(body: &Option<Body>) -> &[Piece]
+    ensures { result.now ≡ outcomes.pieces_in body.now }
+{
     match body {
         None => &[],
-        Some(Body::Seal { pieces, .. } | Body::Open { pieces, .. }) => pieces,
+        Some(Body::Seal { pieces, .. } | Body::Open { pieces, .. }) => pieces.as_slice(),
     }
 }
 
-fn course<'a>(body: &'a Option<Body>, bodies: &'a [Stretch<'a>]) -> Course<'a> {
+// The course with the body's calls.
+fn course<'a>(body: &'a Option<Body>, bodies: &'a [Stretch<'a>]) -> Course<'a>
+    ensures { map outcomes.brought_by bodies.now ≡ map brought_in (outcomes.pieces_in body.now)
+        → outcomes.course_by result ≡ option_map course_in body.now }
+{
     match body {
         None => Course::Heading,
         Some(Body::Seal { finish, .. }) => Course::Seal {

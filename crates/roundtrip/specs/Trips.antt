@@ -1,6 +1,7 @@
 -- One message sealed under a suite, opened again, and opened with a bit of the tag turned; and the
 -- text that is written of it.
-use Rattle.std.specs.Prelude.{◌≡◌, ℕ, ◌⊎◌, List, [], ◌∷◌, ◌++◌, length, replicate, slice_index, slice_set, bit_xor, codes, decimal, Ok, Err, Some, Option, Result}
+use Rattle.std.specs.Prelude.{◌≡◌, ℕ, ◌⊎◌, List, [], ◌∷◌, ◌++◌, length, replicate, slice_index}
+use Rattle.std.specs.Prelude.{slice_set, bit_xor, codes, decimal, Ok, Err, Some, Option, Result}
 use Rattle.std.specs.Io.KnownBytes.{Appends}
 use Rattle.hex.specs.Hex.{encode_lower}
 use Rattle.fault.specs.declared.kinds.SessionFault.{SessionFault}

@@ -9,8 +9,8 @@ use std::env;
 use trips::run;
 
 const HELP: &'static str =
-    "roundtrip seals a message under each listed suite, opens it again, and shows that a tag with one
-bit turned is refused. It reads nothing, and takes no arguments but --help.
+    "roundtrip seals a message under each listed suite, opens it again, and shows that a tag with
+one bit turned is refused. It reads nothing, and takes no arguments but --help.
 ";
 
 fn main(rt: HostRuntime) -> anyhow::Result<()> {

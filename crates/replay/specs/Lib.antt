@@ -1,0 +1,5 @@
+pub mod Lines
+pub mod Scripts
+pub mod Texts
+pub mod Outcomes
+pub mod Runs
