@@ -66,7 +66,7 @@ decoded (Err e) = Err rule.Digits
 abbrev pub bytes_of : List ℕ → Result (List ℕ) Rule
 bytes_of text = decoded (decode_of text)
 
--- the number of a suite, and the room of a body call
+-- the number of a suite, a byte; and the room of a body call, in bytes
 abbrev pub suite_said : List ℕ → Result Said Rule
 suite_said text = or_breaks (number_below (2 ^ 8) text) rule.Suite >>= (λ n. Ok (SuiteIs n))
 

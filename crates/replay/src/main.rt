@@ -1,5 +1,5 @@
-//! Plays a written session: reads one call to a line from standard input, and prints what every call
-//! answered.
+//! Plays a written session: reads one call to a line from standard input, and prints what every
+//! call answered.
 #![tactic(auto)]
 
 mod lines;

@@ -12,9 +12,8 @@ ghost use Rattle.suites.specs.Listed.{listed};
 use crate::lines::{Piece, Unread};
 use crate::report::Outcome;
 use crate::script::{Body, Script};
+use script::{Course, Stretch, play};
 use session::keys::KeyPlace;
-use script::play;
-use script::{Course, Stretch};
 use std::alloc::{AllocError, Global};
 use std::io::{Read, Write};
 use std::str::from_utf8;
@@ -68,11 +67,15 @@ fn of_lines(heap: Global, lines: &[&str]) -> Result<Outcome, AllocError>
         (outcomes.written_from 1 unwritten (map (λ l. l.now) lines.now)) o) }
 {
     let mut script = Script::new(heap);
-    let mut number = 1;
-    for line in lines {
+    for (before, line) in lines.iter().enumerate() {
         match script.add(heap, line) {
-            Ok(()) => number += 1,
-            Err(Unread::Broken(rule)) => return Ok(Outcome::Broken { line: number, rule }),
+            Ok(()) => {}
+            Err(Unread::Broken(rule)) => {
+                return Ok(Outcome::Broken {
+                    line: before + 1,
+                    rule,
+                });
+            }
             Err(Unread::Memory) => return Err(AllocError),
         }
     }

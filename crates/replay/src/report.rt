@@ -5,8 +5,7 @@ ghost use Rattle.replay.specs.Texts as texts;
 use crate::lines::Rule;
 use fault::kinds::{KeyFault, Placed};
 use hexits::Hex;
-use script::Played;
-use script::{Answer, End};
+use script::{Answer, End, Played};
 use std::fmt;
 
 /// What comes of an input.
