@@ -1,18 +1,18 @@
-//! A delivery of two entries, one for each refusal that a delivery can meet, and what is printed
+//! Deliveries that are accepted, one for each refusal that a delivery can meet, and what is printed
 //! for each.
-use anyhow::anyhow;
+use crate::rows::half_right;
 use delivery::message::seal;
 use hexits::Hex;
 use report::print;
 use std::alloc::{AllocError, Global};
 use std::io;
 use std::io::Write;
+use suites::listed::{MIRROR, POET_AES_FOUR, POET_AES_TEN, SHAFT};
+use suites::shaft::Shaft;
 
 const KEY: [u8; 16] = [0x2a; 16];
 
 const HEADER: &[u8; 6] = b"lift 7";
-
-const SUITE: u8 = 1;
 
 // The longest sheet that is shown.
 const MOST: usize = 39;
@@ -20,10 +20,20 @@ const MOST: usize = 39;
 const SHEET: &[u8; MOST] =
     b"\x00\x05DOORSH01\x00\x02\x00\x3fROLLER12DOORSH01\x00\x18\xfe\x00\x12\x03R/7";
 
+const ENTRY: &[u8; 12] = b"\x00\x05DOORSH01\x00\x02";
+
+// One in 24 months, a need of a half, which is rounded up; and one in 25 months, which is rounded
+// down.
+const NEEDS: &[u8; 28] = b"\x00\x15DOORSH01\x00\x01\x00\x18\x00\x15DOORSH02\x00\x01\x00\x19";
+
 /// Writes the deliveries, each with what is printed for it.
 pub(crate) fn deliveries<W: Write>(alloc: Global, writer: &mut W) -> anyhow::Result<()> {
-    let mut sealed = delivery(alloc, SHEET)?;
+    let mut sealed = delivery(alloc, SHAFT, SHEET)?;
     show(writer, &sealed)?;
+    show(writer, &delivery(alloc, SHAFT, NEEDS)?)?;
+    for suite in [POET_AES_FOUR, POET_AES_TEN, MIRROR] {
+        show(writer, &delivery(alloc, suite, ENTRY)?)?;
+    }
     // cut short
     show(writer, &sealed[..sealed.len().saturating_sub(1)])?;
     // a suite that is not listed
@@ -32,35 +42,56 @@ pub(crate) fn deliveries<W: Write>(alloc: Global, writer: &mut W) -> anyhow::Res
     }
     show(writer, &sealed)?;
     // no ciphertext
-    show(writer, &assembled(alloc, &[], &[0; 16])?)?;
-    // a bit of the tag turned
-    let mut sealed = delivery(alloc, b"\x00\x05DOORSH01\x00\x02")?;
-    if let Some(last) = sealed.last_mut() {
-        *last ^= 1;
-    }
-    show(writer, &sealed)?;
+    show(writer, &assembled(alloc, SHAFT, &[], &[0; 16])?)?;
+    forgeries(alloc, writer)?;
     // an entry cut short, one with an unknown bit, one without a count, and one with the count 0
-    show(writer, &delivery(alloc, b"\x00")?)?;
-    show(writer, &delivery(alloc, b"\x00\x45DOORSH01\x00\x02")?)?;
-    show(writer, &delivery(alloc, b"\x00\x01DOORSH01")?)?;
-    show(writer, &delivery(alloc, b"\x00\x05DOORSH01\x00\x00")?)?;
-    Ok(())
+    show(writer, &delivery(alloc, SHAFT, b"\x00")?)?;
+    show(
+        writer,
+        &delivery(alloc, SHAFT, b"\x00\x45DOORSH01\x00\x02")?,
+    )?;
+    show(writer, &delivery(alloc, SHAFT, b"\x00\x01DOORSH01")?)?;
+    show(
+        writer,
+        &delivery(alloc, SHAFT, b"\x00\x05DOORSH01\x00\x00")?,
+    )?;
+    // a good entry and a byte
+    show(
+        writer,
+        &delivery(alloc, SHAFT, b"\x00\x05DOORSH01\x00\x02\x00")?,
+    )
+}
+
+// A tag whose last bit is turned, and one that passes the second test of an opening alone.
+fn forgeries<W: Write>(alloc: Global, writer: &mut W) -> anyhow::Result<()> {
+    let mut ciphertext = [0; 12];
+    let mut tag = [0; 16];
+    seal(SHAFT, &KEY, HEADER, ENTRY, &mut ciphertext, &mut tag)?;
+    let mut turned = tag;
+    turned[15] ^= 1;
+    show(writer, &assembled(alloc, SHAFT, &ciphertext, &turned)?)?;
+    tag[0] ^= 1;
+    let tag = half_right::<Shaft>(KEY, HEADER, &ciphertext, &tag);
+    show(writer, &assembled(alloc, SHAFT, &ciphertext, &tag)?)
 }
 
 // The delivery of a sheet, sealed.
-fn delivery(alloc: Global, sheet: &[u8]) -> anyhow::Result<Vec<u8>> {
+fn delivery(alloc: Global, suite: u8, sheet: &[u8]) -> anyhow::Result<Vec<u8>> {
     let mut ciphertext = [0; MOST];
     let mut tag = [0; 16];
-    match seal(SUITE, &KEY, HEADER, sheet, &mut ciphertext, &mut tag) {
-        Ok(n) => Ok(assembled(alloc, &ciphertext[..n.min(MOST)], &tag)?),
-        Err(fault) => Err(anyhow!("{fault}")),
-    }
+    let n = seal(suite, &KEY, HEADER, sheet, &mut ciphertext, &mut tag)?;
+    Ok(assembled(alloc, suite, &ciphertext[..n.min(MOST)], &tag)?)
 }
 
 // The parts of a delivery, end to end.
-fn assembled(alloc: Global, ciphertext: &[u8], tag: &[u8; 16]) -> Result<Vec<u8>, AllocError> {
+fn assembled(
+    alloc: Global,
+    suite: u8,
+    ciphertext: &[u8],
+    tag: &[u8; 16],
+) -> Result<Vec<u8>, AllocError> {
     let mut all = Vec::new(alloc);
-    all.push(SUITE)?;
+    all.push(suite)?;
     all.extend_from_slice(&KEY)?;
     all.extend_from_slice(&[0, HEADER.len() as u8])?;
     all.extend_from_slice(HEADER)?;
@@ -70,9 +101,10 @@ fn assembled(alloc: Global, ciphertext: &[u8], tag: &[u8; 16]) -> Result<Vec<u8>
     Ok(all)
 }
 
-fn show<W: Write>(writer: &mut W, delivery: &[u8]) -> io::Result<()> {
+fn show<W: Write>(writer: &mut W, delivery: &[u8]) -> anyhow::Result<()> {
     writeln!(writer, "delivery   {}", Hex(delivery))?;
     writeln!(writer, "printed")?;
     print(delivery, writer)?;
-    writeln!(writer)
+    writeln!(writer)?;
+    Ok(())
 }

@@ -76,10 +76,10 @@ fn head<W: Write>(writer: &mut W, suite: u8) -> io::Result<()> {
     value(writer, "key", &KEY)
 }
 
-// Messages and headers of less than a block, of whole blocks, and of a byte more.
+// Messages and headers of a byte less than a block, of whole blocks, and of a byte more.
 fn seals<S: Suite, W: Write>(writer: &mut W) -> io::Result<()> {
     show::<S, W>(writer, &[], &MESSAGE[..1])?;
-    show::<S, W>(writer, &HEADER[..1], &MESSAGE[..16])?;
+    show::<S, W>(writer, &HEADER[..15], &MESSAGE[..16])?;
     show::<S, W>(writer, &HEADER[..16], &MESSAGE[..17])?;
     show::<S, W>(writer, &HEADER, &MESSAGE)?;
     writeln!(writer)

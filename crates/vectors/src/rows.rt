@@ -62,6 +62,29 @@ pub(crate) fn show<S: Suite, W: Write>(
     value(writer, "tag", &tag)
 }
 
+/// The tag of a ciphertext of one block that begins as `tag` does, and passes the second test of an
+/// opening.
+pub(crate) fn half_right<S: Suite>(
+    key: [u8; 16],
+    header: &[u8],
+    ciphertext: &[u8],
+    tag: &[u8; 16],
+) -> [u8; 16] {
+    let Keyed {
+        permutation,
+        hash,
+        mut digest,
+    } = S::set_up(key);
+    digest.absorb(header);
+    let tau = digest.finish();
+    let mask = permutation.encrypt(S::encode(8 * ciphertext.len().min(16) as u64));
+    let first = hash.hash(xor(tau, S::encode(1)));
+    let y = xor(xor(first, complete(ciphertext, tag)), mask);
+    let inner = permutation.encrypt(xor(hash.hash(permutation.decrypt(y)), tau));
+    let z = xor(xor(hash.hash(y), inner), tau);
+    complete(&tag[..16 - ciphertext.len().min(16)], &z)
+}
+
 fn row<W: Write>(writer: &mut W, i: usize, x: &[u8; 16], y: &[u8; 16]) -> io::Result<()> {
     writeln!(writer, "X_{i:<9}{}", Hex(x))?;
     writeln!(writer, "Y_{i:<9}{}", Hex(y))
