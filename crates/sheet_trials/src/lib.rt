@@ -1,5 +1,5 @@
-// Tests of parts sheets: `writing` and `reading` of entries, their `lines`, deliveries as they are parsed (`parsing`) and opened (`opening`),
-// and what these share (`samples`, `vectors`).
+//! Tests of parts sheets: `writing` and `reading` of entries, their `lines`, deliveries as they are
+//! parsed (`parsing`) and opened (`opening`), and what these share (`samples`, `vectors`).
 #![tactic(auto)]
 
 #[cfg(test)]

@@ -1,5 +1,6 @@
-// Lines of entries: the shortest, the longest and some between, what they refuse, and the yearly need.
-use crate::samples::{LONGEST, SHORTEST, kept, lacks_room, refuses};
+//! Lines of entries: the shortest, the longest and some between, what they refuse, and the yearly
+//! need.
+use crate::samples::{LONGEST, SHORTEST, holds, kept, lacks_room, refuses};
 use listing::line::line;
 use listing::need::yearly_need;
 use sheet::entry::Entry;
@@ -20,81 +21,93 @@ fn shows(
     shown.extend_from_slice(text)?;
     let end = shown.len();
     let mut exact = vec![in heap; 0xee; end]?;
-    assert_eq!(rt; line(e, &mut exact, 3), Ok(end), "{case}");
-    assert!(rt; exact.as_slice() == shown.as_slice(), "other line: {case}");
+    holds(
+        rt,
+        line(e, &mut exact, 3) == Ok(end),
+        "other end in exact room",
+        case,
+    );
+    holds(rt, exact.as_slice() == shown.as_slice(), "other line", case);
     let mut buf = [0xee; 75];
-    assert_eq!(rt; line(e, &mut buf, 3), Ok(end), "{case}");
+    holds(rt, line(e, &mut buf, 3) == Ok(end), "other end", case);
     kept(rt, &buf, 3, end, case);
     lacks_room(rt, heap, line, e, end, case)
 }
 
-#[test]
-fn lines(rt: HostRuntime) -> Result<(), Fail> {
-    let heap = rt.alloc();
-    shows(
-        &rt,
-        heap,
-        SHORTEST,
-        b"DOORSH01;-;2;-;-;-;-\n",
-        &"the shortest entry",
-    )?;
-    shows(
-        &rt,
-        heap,
+const LINES: [(Entry<&'static [u8]>, &'static [u8], &'static str); 5] = [
+    (SHORTEST, b"DOORSH01;-;2;-;-;-;-\n", "the shortest entry"),
+    (
         LONGEST,
         b"ROLLER77;DOORSH01;9999;-5;600;200;A/1234567890/BCDEFGHIJKLMNOPQRST\n",
-        &"the longest entry",
-    )?;
-    let e = Entry {
-        months: Some(1),
-        ..LONGEST
-    };
-    shows(
-        &rt,
-        heap,
-        e,
+        "the longest entry",
+    ),
+    (
+        Entry {
+            months: Some(1),
+            ..LONGEST
+        },
         b"ROLLER77;DOORSH01;9999;-5;1;119988;A/1234567890/BCDEFGHIJKLMNOPQRST\n",
-        &"as long as a line can be",
-    )?;
-    let e = Entry {
-        landing: Some(0),
-        months: Some(25),
-        count: 1,
-        ..SHORTEST
-    };
-    shows(&rt, heap, e, b"DOORSH01;-;1;0;25;0;-\n", &"a need of 0")?;
-    let e: Entry<&[u8]> = Entry {
-        landing: Some(40),
-        parent: Some(b"CABIN001"),
-        ..SHORTEST
-    };
-    shows(
-        &rt,
-        heap,
-        e,
+        "as long as a line can be",
+    ),
+    (
+        Entry {
+            landing: Some(0),
+            months: Some(25),
+            count: 1,
+            ..SHORTEST
+        },
+        b"DOORSH01;-;1;0;25;0;-\n",
+        "a need of 0",
+    ),
+    (
+        Entry {
+            landing: Some(40),
+            parent: Some(b"CABIN001"),
+            ..SHORTEST
+        },
         b"DOORSH01;CABIN001;2;40;-;-;-\n",
-        &"a parent and a landing",
-    )
+        "a parent and a landing",
+    ),
+];
+
+#[test]
+fn lines(rt: HostRuntime) -> Result<(), Fail> {
+    for (e, text, case) in LINES {
+        shows(&rt, rt.alloc(), e, text, &case)?;
+    }
+    Ok(())
 }
+
+const OUTSIDE: [(Entry<&'static [u8]>, &'static str); 3] = [
+    (
+        Entry {
+            count: 10000,
+            ..LONGEST
+        },
+        "count",
+    ),
+    (
+        Entry {
+            months: Some(0),
+            ..LONGEST
+        },
+        "months",
+    ),
+    (
+        Entry {
+            drawing: Some(b""),
+            ..LONGEST
+        },
+        "drawing",
+    ),
+];
 
 #[test]
 fn values_before_room(rt: HostRuntime) -> Result<(), Fail> {
-    let heap = rt.alloc();
-    let e = Entry {
-        count: 10000,
-        ..LONGEST
-    };
-    refuses(&rt, heap, line, e, 75, &"count")?;
-    let e = Entry {
-        months: Some(0),
-        ..LONGEST
-    };
-    refuses(&rt, heap, line, e, 75, &"months")?;
-    let e: Entry<&[u8]> = Entry {
-        drawing: Some(b""),
-        ..LONGEST
-    };
-    refuses(&rt, heap, line, e, 75, &"drawing")
+    for (e, case) in OUTSIDE {
+        refuses(&rt, rt.alloc(), line, e, 75, &case)?;
+    }
+    Ok(())
 }
 
 #[test]

@@ -1,5 +1,6 @@
-// Opening of delivered sheets: seals by another program, the largest sheet, every refusal and what the buffer then holds, and damage.
-use crate::samples::{SHORTEST, refused};
+//! Opening of delivered sheets: seals by another program, the largest sheet, every refusal and what
+//! the buffer then holds, and damage.
+use crate::samples::{SHORTEST, holds, refused};
 use crate::vectors::{ENDS, FOUR_ROUNDS, KEY, LABEL, MIRROR, SEALED, SHAFT, SHEET, TEN_ROUNDS};
 use delivery::message::seal;
 use delivery::sheets::open_sheet;
@@ -63,17 +64,22 @@ fn largest_sheet(rt: HostRuntime) -> Result<(), Fail> {
         let mut ciphertext = vec![in heap; 0; 16384]?;
         let mut tag = [0; 16];
         let n = seal(ends.suite, KEY, LABEL, &sheet, &mut ciphertext, &mut tag)?;
-        assert_eq!(rt; n, 16384);
+        let suite = &ends.suite;
         assert!(rt; ciphertext.len() == 16384);
-        assert!(rt;
+        holds(&rt, n == 16384, "other length under suite", suite);
+        holds(
+            &rt,
             &ciphertext[0..16] == ends.first.as_slice(),
-            "other ciphertext"
+            "other front under suite",
+            suite,
         );
-        assert!(rt;
+        holds(
+            &rt,
             &ciphertext[16368..16384] == ends.last.as_slice(),
-            "other ciphertext"
+            "other end under suite",
+            suite,
         );
-        assert_eq!(rt; tag, ends.tag);
+        holds(&rt, tag == ends.tag, "other tag under suite", suite);
         let mut out = vec![in heap; 0xee; 16384]?;
         let d = Delivery {
             suite: ends.suite,
@@ -83,8 +89,13 @@ fn largest_sheet(rt: HostRuntime) -> Result<(), Fail> {
             tag: &tag,
         };
         let count = open_sheet(d, &mut out)?;
-        assert_eq!(rt; count, 1365);
-        assert!(rt; out.as_slice() == sheet.as_slice(), "other sheet");
+        holds(&rt, count == 1365, "other count under suite", suite);
+        holds(
+            &rt,
+            out.as_slice() == sheet.as_slice(),
+            "other sheet under suite",
+            suite,
+        );
     }
     Ok(())
 }
@@ -102,29 +113,73 @@ fn refuses(
     case: &impl Display,
 ) -> Result<(), Fail> {
     let mut out = vec![in heap; 0xee; room]?;
-    assert_eq!(rt; open_sheet(d, &mut out), refused(fault, place), "{case}");
-    assert_eq!(rt; fault.number(), number, "{case}");
+    holds(
+        rt,
+        open_sheet(d, &mut out) == refused(fault, place),
+        "other answer",
+        case,
+    );
+    holds(rt, fault.number() == number, "other number", case);
     let zeros = if number < 9 { 0 } else { d.ciphertext.len() };
     for (i, b) in out.as_slice().iter().enumerate() {
         let held = if i < zeros { 0 } else { 0xee };
-        assert_eq!(rt; *b, held, "other bytes after a refusal: {case}");
+        holds(rt, *b == held, "other bytes after a refusal", case);
     }
     Ok(())
 }
 
+// A delivery, the room for its sheet, and the number, the fault and the place of its refusal.
+const REFUSED: [(Delivery<'static>, usize, u8, SheetFault, usize); 5] = [
+    (
+        Delivery {
+            suite: 9,
+            key: b"fifteen old key",
+            ..SHAFT
+        },
+        90,
+        2,
+        SheetFault::Session(SessionFault::Key(KeyFault::Suite)),
+        9,
+    ),
+    (
+        Delivery {
+            key: b"fifteen old key",
+            ..SHAFT
+        },
+        90,
+        3,
+        SheetFault::Session(SessionFault::Key(KeyFault::Length)),
+        15,
+    ),
+    (SHAFT, 83, 6, SheetFault::Session(SessionFault::Room), 0),
+    (
+        Delivery {
+            ciphertext: b"",
+            ..SHAFT
+        },
+        90,
+        7,
+        SheetFault::Session(SessionFault::Empty),
+        0,
+    ),
+    (
+        Delivery {
+            tag: b"\xea\x05\x24\x18\x72\x93\xbd\x44\x12\x77\xfc\x2d",
+            ..SHAFT
+        },
+        90,
+        8,
+        SheetFault::Session(SessionFault::Tag),
+        0,
+    ),
+];
+
 #[test]
-fn refused_for_key(rt: HostRuntime) -> Result<(), Fail> {
-    let heap = rt.alloc();
-    let d = Delivery {
-        suite: 9,
-        key: b"fifteen old key",
-        ..SHAFT
-    };
-    let fault = SheetFault::Session(SessionFault::Key(KeyFault::Suite));
-    refuses(&rt, heap, d, 90, 2, fault, 9, &"suite")?;
-    let d = Delivery { suite: 1, ..d };
-    let fault = SheetFault::Session(SessionFault::Key(KeyFault::Length));
-    refuses(&rt, heap, d, 90, 3, fault, 15, &"length of the key")
+fn refused_deliveries(rt: HostRuntime) -> Result<(), Fail> {
+    for (d, room, number, fault, place) in REFUSED {
+        refuses(&rt, rt.alloc(), d, room, number, fault, place, &number)?;
+    }
+    Ok(())
 }
 
 #[test]
@@ -157,43 +212,6 @@ fn refused_for_body(rt: HostRuntime) -> Result<(), Fail> {
     };
     let fault = SheetFault::Session(SessionFault::Body);
     refuses(&rt, heap, d, 1048577, 5, fault, 0, &"body")
-}
-
-#[test]
-fn refused_for_room_or_tag(rt: HostRuntime) -> Result<(), Fail> {
-    let heap = rt.alloc();
-    let fault = SheetFault::Session(SessionFault::Room);
-    refuses(&rt, heap, SHAFT, 83, 6, fault, 0, &"room")?;
-    let d = Delivery {
-        ciphertext: b"",
-        ..SHAFT
-    };
-    refuses(
-        &rt,
-        heap,
-        d,
-        90,
-        7,
-        SheetFault::Session(SessionFault::Empty),
-        0,
-        &"no body",
-    )?;
-    let tag = SHAFT.tag;
-    assert!(rt; tag.len() == 16);
-    let d = Delivery {
-        tag: &tag[0..12],
-        ..SHAFT
-    };
-    refuses(
-        &rt,
-        heap,
-        d,
-        90,
-        8,
-        SheetFault::Session(SessionFault::Tag),
-        0,
-        &"tag",
-    )
 }
 
 // A sheet that is sealed as it is, and then refused at an entry.
@@ -293,7 +311,8 @@ fn forged(rt: &impl Abort, heap: Global, d: Delivery<'_>, case: &impl Display) -
     )
 }
 
-// One bit of each byte that a gateway carries, under every suite but the mirror, which protects nothing.
+// One bit of each byte that a gateway carries, under every suite but the mirror, which protects
+// nothing.
 fn damage_shows(rt: &impl Abort, heap: Global, d: Delivery<'_>) -> Result<(), Fail> {
     for header in &each_damaged(heap, d.header)? {
         forged(rt, heap, Delivery { header, ..d }, &"a byte of the header")?;

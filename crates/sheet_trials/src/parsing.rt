@@ -1,4 +1,6 @@
-// Deliveries from bytes: the shortest, the longest, and inputs that are cut short, too long or over their limits.
+//! Deliveries from bytes: the shortest, the longest, and inputs that are cut short, too long or
+//! over their limits.
+use crate::samples::holds;
 use crate::vectors::KEY;
 use fault::kinds::{ConsoleFault, Placed};
 use std::alloc::{AllocError, Global};
@@ -9,7 +11,8 @@ use wire::parse::parse;
 
 const TAG: &'static [u8; 16] = b"\x01\x02\x03\x04\x05\x06\x07\x08\x09\x0a\x0b\x0c\x0d\x0e\x0f\x10";
 
-// A delivery under suite 4, with a header and a ciphertext of these lengths, which tells `told` as the length of its ciphertext.
+// A delivery under suite 4, with a header and a ciphertext of these lengths, which tells `told` as
+// the length of its ciphertext.
 fn delivery(heap: Global, header: u16, told: u32, ciphertext: u16) -> Result<Vec<u8>, AllocError> {
     let header_end = 19 + usize::from(header);
     let mut bytes = vec![in heap; 4; 1]?;
@@ -31,18 +34,20 @@ fn parses(
     case: &impl Display,
 ) -> Result<(), Fail> {
     let input = delivery(heap, header, u32::from(ciphertext), ciphertext)?;
-    assert_eq!(rt; input.len(), len, "{case}");
+    holds(rt, input.len() == len, "other length", case);
     let d = parse(&input)?;
-    assert_eq!(rt; d.suite, 4, "{case}");
-    assert!(rt; d.key == KEY.as_slice(), "other key: {case}");
+    holds(rt, d.suite == 4, "other suite", case);
+    holds(rt, d.key == KEY.as_slice(), "other key", case);
     let filled = vec![in heap; 0x22; usize::from(header)]?;
-    assert!(rt; d.header == filled.as_slice(), "other header: {case}");
+    holds(rt, d.header == filled.as_slice(), "other header", case);
     let filled = vec![in heap; 0x33; usize::from(ciphertext)]?;
-    assert!(rt;
+    holds(
+        rt,
         d.ciphertext == filled.as_slice(),
-        "other ciphertext: {case}"
+        "other ciphertext",
+        case,
     );
-    assert!(rt; d.tag == TAG.as_slice(), "other tag: {case}");
+    holds(rt, d.tag == TAG.as_slice(), "other tag", case);
     Ok(())
 }
 

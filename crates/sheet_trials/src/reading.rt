@@ -1,5 +1,6 @@
-// Reading of entries: field by field, several end to end, and every refusal, with its place and what is answered after it.
-use crate::samples::{LONGEST, SHORTEST, refused};
+//! Reading of entries: field by field, several end to end, and every refusal, with its place and
+//! what is answered after it.
+use crate::samples::{LONGEST, SHORTEST, holds, refused};
 use fault::kinds::SheetFault;
 use sheet::entry::{Entry, Field, Kind};
 use sheet::reader::Reader;
@@ -39,14 +40,14 @@ fn answers(r: &Reader<'_>, kind: Kind, e: Entry<&[u8]>) -> bool {
 // The reader speaks for this entry.
 fn speaks_for(rt: &impl Abort, r: &Reader<'_>, e: Entry<&[u8]>, case: &impl Display) {
     for kind in KINDS {
-        assert!(rt; answers(r, kind, e), "other field: {case}");
+        holds(rt, answers(r, kind, e), "other field", case);
     }
 }
 
 // No entry was answered yet.
 fn is_silent(rt: &impl Abort, r: &Reader<'_>, case: &impl Display) {
     for kind in KINDS {
-        assert!(rt; r.field(kind).is_none(), "a field of no entry: {case}");
+        holds(rt, r.field(kind).is_none(), "a field of no entry", case);
     }
 }
 
@@ -58,7 +59,7 @@ fn reads(
     case: &impl Display,
 ) -> Result<(), Fail> {
     let read = r.next()?.ok_or("no entry")?;
-    assert!(rt; read == e, "other entry: {case}");
+    holds(rt, read == e, "other entry", case);
     speaks_for(rt, r, e, case);
     Ok(())
 }
@@ -110,7 +111,7 @@ fn stops(
             Ok(_) => Ok(0),
             Err(e) => Err(e),
         };
-        assert_eq!(rt; answer, refused(fault, place), "{case}");
+        holds(rt, answer == refused(fault, place), "other refusal", case);
     }
 }
 
@@ -122,14 +123,19 @@ fn refuses(
     fault: SheetFault,
     case: &impl Display,
 ) -> Result<(), Fail> {
-    assert_eq!(rt; test(bytes), refused(fault, 0), "{case}");
+    holds(rt, test(bytes) == refused(fault, 0), "other refusal", case);
     let mut r = Reader::new(bytes);
     stops(rt, &mut r, fault, 0, case);
     is_silent(rt, &r, case);
     let mut sheet = vec![in heap; 0; 12]?;
     write(SHORTEST, &mut sheet, 0)?;
     sheet.extend_from_slice(bytes)?;
-    assert_eq!(rt; test(&sheet), refused(fault, 12), "{case}");
+    holds(
+        rt,
+        test(&sheet) == refused(fault, 12),
+        "other refusal at 12",
+        case,
+    );
     let mut r = Reader::new(&sheet);
     reads(rt, &mut r, SHORTEST, case)?;
     stops(rt, &mut r, fault, 12, case);
@@ -163,7 +169,7 @@ const BROKEN: [(&'static [u8], SheetFault); 26] = [
     (b"\x00\x04\x00\x02", SheetFault::Missing),
     (b"\x00\x3a", SheetFault::Missing),
     (b"\x00\x00", SheetFault::Missing),
-    // a bit that may not stand before one that is missing
+    // a bit that may not be set before one that is missing
     (b"\x00\x41DOORSH01", SheetFault::UnknownBit),
     (b"\x80\x00", SheetFault::UnknownBit),
     // values past their bounds

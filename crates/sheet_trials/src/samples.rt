@@ -1,4 +1,4 @@
-// What the tests share: two entries, what a refusal is, and whether a buffer is as it was filled.
+//! What the tests share: two entries, what a refusal is, and whether a buffer is as it was filled.
 use fault::kinds::{Placed, SheetFault};
 use sheet::entry::Entry;
 use std::alloc::Global;
@@ -28,16 +28,23 @@ pub(crate) fn refused(fault: SheetFault, place: usize) -> Result<usize, Placed<S
     Err(Placed { fault, place })
 }
 
+// What holds of a case. An assertion with a message is proved anew wherever it is written, and a
+// call of this one is cheaper.
+pub(crate) fn holds(rt: &impl Abort, fact: bool, otherwise: &str, case: &impl Display) {
+    assert!(rt; fact, "{otherwise}: {case}");
+}
+
 // The bytes outside a part are as they were filled.
 pub(crate) fn kept(rt: &impl Abort, buf: &[u8], from: usize, to: usize, case: &impl Display) {
     for (i, b) in buf.iter().enumerate() {
         if i < from || i >= to {
-            assert_eq!(rt; *b, 0xee, "altered outside the part: {case}");
+            holds(rt, *b == 0xee, "altered outside the part", case);
         }
     }
 }
 
-// A call that puts an entry, or its line, at a place refuses it for its values, where it has no room too.
+// A call that puts an entry, or its line, at a place refuses it for its values, where it has no
+// room too.
 pub(crate) fn refuses<F: Fn(Entry<&[u8]>, &mut [u8], usize) -> Result<usize, Placed<SheetFault>>>(
     rt: &impl Abort,
     heap: Global,
@@ -50,10 +57,12 @@ pub(crate) fn refuses<F: Fn(Entry<&[u8]>, &mut [u8], usize) -> Result<usize, Pla
 {
     let mut buf = vec![in heap; 0xee; size]?;
     for place in [3, size, size.saturating_add(1)] {
-        assert_eq!(rt;
-            put(e, &mut buf, place),
-            refused(SheetFault::Value, place),
-            "{case}"
+        let answer = put(e, &mut buf, place);
+        holds(
+            rt,
+            answer == refused(SheetFault::Value, place),
+            "not refused for its values",
+            case,
         );
     }
     kept(rt, &buf, 0, 0, case);
@@ -76,10 +85,12 @@ pub(crate) fn lacks_room<
     assert!(rt; 3 < end, "{case}");
     let mut buf = vec![in heap; 0xee; end - 1]?;
     for place in [3, end] {
-        assert_eq!(rt;
-            put(e, &mut buf, place),
-            refused(SheetFault::Room, place),
-            "{case}"
+        let answer = put(e, &mut buf, place);
+        holds(
+            rt,
+            answer == refused(SheetFault::Room, place),
+            "not refused for its room",
+            case,
         );
     }
     kept(rt, &buf, 0, 0, case);
