@@ -67,26 +67,11 @@ fn damage_shows(
     forged(rt, heap, suite, &other, &ciphertext, &tag, &"the header")?;
     let other = turned(heap, &ciphertext, len / 2)?;
     forged(rt, heap, suite, header, &other, &tag, &"the ciphertext")?;
-    let other = turned(heap, &tag, 0)?;
-    forged(
-        rt,
-        heap,
-        suite,
-        header,
-        &ciphertext,
-        &other,
-        &"the tag's front",
-    )?;
-    let other = turned(heap, &tag, 15)?;
-    forged(
-        rt,
-        heap,
-        suite,
-        header,
-        &ciphertext,
-        &other,
-        &"the tag's end",
-    )
+    for (at, case) in [(0, "the tag's front"), (15, "the tag's end")] {
+        let other = turned(heap, &tag, at)?;
+        forged(rt, heap, suite, header, &ciphertext, &other, &case)?;
+    }
+    Ok(())
 }
 
 #[test]
