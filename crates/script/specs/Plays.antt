@@ -128,7 +128,7 @@ abbrev pub CoursePlayed : Course → (under : List ℕ → Functions) (key : Lis
     → (hs : List Stretch) (p : Played) (e : End) → Type 0
 CoursePlayed c under key hs p e = CourseKept c under key hs p e × AllByTable header_check_of [] hs
 
--- the same from where a session stood when its body calls began
+-- the same of a session s with the log p before its body calls
 abbrev pub SealingPlayed : {A W B C D : Type 0} {u : suite.Ghosts A B C D}
     {x : permutation.Ghosts B} {y : hash.Ghosts C} {z : digest.Ghosts D} {w : way.Ghosts W}
     → List Stretch → Bool → (p p' : Played) → End → Session A W B C D u x y z w → Type 0

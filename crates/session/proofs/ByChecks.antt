@@ -1,10 +1,9 @@
 -- What each call does, by its check: all that its contract says, gathered as proofs use it.
 use Rattle.std.proofs.Common.{◌≡◌, ℕ, ◌+◌, ◌-◌, ◌≤◌, ◌↔◌, List, [], ◌++◌, length, take, drop, replicate, IfOk, IfErr, Some, None, Ok, Err, Option, Result, sym, refl, ap, ◌∙◌, subst, append-nil}
 use Rattle.std.specs.Result.{OnOk, OnErr, IsOk}
-use Rattle.fault.specs.declared.kinds.KeyFault.{KeyFault}
 use Rattle.fault.specs.declared.kinds.SessionFault.{SessionFault}
 use Rattle.fault.specs.declared.kinds.Placed.{Placed}
-use Rattle.fault.specs.Refusals.{Refusal, IsRefusal, Refuses, RefusedBy, key_faults, session_faults}
+use Rattle.fault.specs.Refusals.{Refusal, IsRefusal, Refuses, RefusedBy, session_faults}
 use Rattle.block.specs.Bytes.{Block}
 use Rattle.poet.specs.Functions.{Functions, Lawful}
 use Rattle.poet.specs.Seal.{Seals}
@@ -21,11 +20,6 @@ use Rattle.session.specs.Runs.{Run, headed, bodied, finished, ended}
 use Rattle.session.specs.Promise.{Blocks, AgreesWith}
 use Rattle.session.specs.Sessions.{Taken, HeadingAt, SessionAt, rows_of, held, writes, given_of, opening_check}
 use Rattle.session.proofs.Promises.{blocks, agrees, sealed_blocks}
-
--- a key put into a place b, which becomes b'
-abbrev pub FillBy : Option (Refusal KeyFault) → (key b b' : List ℕ) → Result (Unit {0}) (Placed KeyFault) → Type 0
-FillBy (Some e) key b b' r = Refuses key_faults e r × (b' ≡ b)
-FillBy None key b b' r = (r ≡ Ok tt) × (b' ≡ key)
 
 module _ {A B C D : Type 0} {u : suite.Ghosts A B C D} {p : permutation.Ghosts B} {h : hash.Ghosts C} {d : digest.Ghosts D} where
   abbrev pub HeaderBy : Option (Refusal SessionFault) → Run → List ℕ → (s s' : Heading A B C D u p h d) → Result (Unit {0}) (Placed SessionFault) → Type 0

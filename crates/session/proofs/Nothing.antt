@@ -4,22 +4,13 @@ use Rattle.std.proofs.Common.{◌≡◌, ℕ, ◌≤◌, true, false, eqb, ltb, 
 use Rattle.poet.specs.Functions.{Functions, Lawful}
 use Rattle.poet.specs.Seal.{header_most, body_most, Seals}
 use Rattle.poet.proofs.Accepting.{tag_law}
-use Rattle.session.specs.Calls.{seal_checks, open_checks}
+use Rattle.session.specs.Calls.{open_checks}
 use Rattle.session.specs.Runs.{Run}
-use Rattle.session.specs.Sessions.{sealing_check, opening_check}
+use Rattle.session.specs.Sessions.{sealing_check}
 
 module _ (f : Functions) (H M C T : List ℕ) (s : Seals f H M C T) where
   header_fits : ltb header_most (length H) ≡ false
   header_fits = le-ltb header_most (length H) s.limits.header_most
-
-  pub seal_passes : (key o : List ℕ) → length key ≡ 16 → length M ≤ length o → seal_checks key H M o ≡ None
-  seal_passes key o k r =
-      let l = s.limits.some in
-      let a : eqb (length key) 16 ≡ true = eq-eqb _ _ k in
-      let b : ltb body_most (length M) ≡ false = le-ltb body_most (length M) s.limits.most in
-      let c : ltb (length o) (length M) ≡ false = le-ltb (length o) (length M) r in
-      let d : eqb (length M) 0 ≡ false = ne_eqb (length M) 0 (λ z. omega arith) in
-      rw (a, header_fits, b, c, d)
 
   module _ (L : Lawful f) where
     some : eqb (length C) 0 ≡ false
@@ -40,9 +31,3 @@ module _ (f : Functions) (H M C T : List ℕ) (s : Seals f H M C T) where
 -- the same of a finish
 pub seal_end_passes : (f : Functions) (R : Run) (C T : List ℕ) → Seals f R.header R.body C T → sealing_check R ≡ None
 seal_end_passes f R C T s = let l = s.limits.some in let d : eqb (length R.body) 0 ≡ false = ne_eqb (length R.body) 0 (λ z. omega arith) in rw d
-
-pub open_end_passes : (f : Functions) → Lawful f → (R : Run) (M T : List ℕ) → Seals f R.header M R.body T → opening_check R T ≡ None
-open_end_passes f L R M T s =
-    let a : eqb (length R.body) 0 ≡ false = some f R.header M R.body T s L in
-    let b : eqb (length T) 16 ≡ true = sixteen f R.header M R.body T s L in
-    rw (a, b)
