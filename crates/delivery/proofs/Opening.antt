@@ -17,8 +17,9 @@ use Rattle.sheet.specs.Entries.{Item, AllGood, sheet_of}
 use Rattle.sheet.specs.Calls.{Tested}
 use Rattle.sheet.proofs.Decoding.{unique}
 use Rattle.sheet.proofs.Writes.{sheets}
-use Rattle.delivery.specs.Told.{not_listed}
-use Rattle.delivery.specs.Sheets.{SheetSeals, SheetOpened, SheetCall, SheetUnder, lifted}
+use Rattle.delivery.specs.Told.{suite_of, not_listed}
+use Rattle.delivery.specs.Sheets.{SheetSeals, SheetOpened, SheetCall, lifted}
+use Rattle.wire.specs.Wire.{Parts}
 
 -- a list that is written and sealed is good, and its bytes are what was sealed
 pub sheet_good : (f : Functions) (H : List ℕ) (es : List Item) (C T : List ℕ) → SheetSeals f H es C T → AllGood es
@@ -92,6 +93,16 @@ no_check_failed (Some e) key H C T o m k q f = absurd (f e q).0
 pub by_count : (under : List ℕ → Functions) (key H C T o m : List ℕ) (k : ℕ) → SheetCall under key H C T o m (Ok k) → (open_checks key H C T o ≡ None) × ((es : List Item) × SheetOpened (under key) H C T o m es)
 by_count under key H C T o m k s =
     (no_check_failed (open_checks key H C T o) key H C T o m k refl s.refused, (s.entries.0, s.entries.1))
+
+-- opening under the suite with the number n
+abbrev pub SheetUnder : Option (List ℕ → Functions) → (n : ℕ) (key H C T o o' : List ℕ)
+    → Result ℕ (Placed SheetFault) → Type 0
+SheetUnder None n key H C T o o' r = Refuses sheet_faults (lifted (not_listed n)) r × (o' ≡ o)
+SheetUnder (Some under) n key H C T o o' r = SheetCall under key H C T o o' r
+
+-- opening the sheet of a delivery with the parts p
+abbrev pub SheetOf : Parts → (o o' : List ℕ) → Result ℕ (Placed SheetFault) → Type 0
+SheetOf p o o' r = SheetUnder (suite_of p.suite) p.suite p.key p.header p.ciphertext p.tag o o' r
 
 -- the clauses of a call that is told its suite by a number, gathered
 pub told : (u : Option (List ℕ → Functions)) (n : ℕ) (key H C T o m : List ℕ) (r : Result ℕ (Placed SheetFault)) → IfNone u (Refuses sheet_faults (lifted (not_listed n)) r × (m ≡ o)) → IfSome u (λ under. SheetCall under key H C T o m r)

@@ -15,7 +15,6 @@ use Rattle.sheet.specs.Laws.{WrittenFromStart}
 use Rattle.suites.specs.declared.listed.Listed.{Listed}
 use Rattle.suites.specs.Listed.{listed}
 use Rattle.delivery.specs.Told.{suite_of, not_listed}
-use Rattle.wire.specs.Wire.{Parts}
 
 -- A list of one or more entries, written by write calls from place 0, end to end and none refused,
 -- and then sealed under the header H, gives the ciphertext C and the tag T.
@@ -65,13 +64,3 @@ pub record SheetCall (under : List ℕ → Functions) (key H C T o o' : List ℕ
 abbrev pub ToldSuite : (n : ℕ) → Result Listed (Placed SheetFault) → Type 0
 ToldSuite n (Ok s) = listed n ≡ Ok s
 ToldSuite n (Err e) = (suite_of n ≡ None) × IsRefusal sheet_faults (lifted (not_listed n)) e
-
--- opening under the suite with the number n
-abbrev pub SheetUnder : Option (List ℕ → Functions) → (n : ℕ) (key H C T o o' : List ℕ)
-    → Result ℕ (Placed SheetFault) → Type 0
-SheetUnder None n key H C T o o' r = Refuses sheet_faults (lifted (not_listed n)) r × (o' ≡ o)
-SheetUnder (Some under) n key H C T o o' r = SheetCall under key H C T o o' r
-
--- opening the sheet of a delivery with the parts p
-abbrev pub SheetOf : Parts → (o o' : List ℕ) → Result ℕ (Placed SheetFault) → Type 0
-SheetOf p o o' r = SheetUnder (suite_of p.suite) p.suite p.key p.header p.ciphertext p.tag o o' r

@@ -5,6 +5,7 @@ use Rattle.std.specs.Option.{option_map}
 use Rattle.std.specs.Fmt.{signed_decimal}
 use Rattle.fault.specs.declared.kinds.SheetFault.{SheetFault}
 use Rattle.fault.specs.declared.kinds.Placed.{Placed}
+use Rattle.listing.specs.declared.line.TheConstants.{LINE_LIMIT}
 use Rattle.sheet.specs.Entries.{Item, Good, Held, text}
 use Rattle.sheet.specs.Calls.{WroteAs}
 
@@ -47,10 +48,12 @@ line_of e = e.code
 abbrev pub Lined : (old new : List ℕ) (at : ℕ) (e : Item) → Result ℕ (Placed SheetFault) → Type 0
 Lined old new at e r = WroteAs old new at e (line_of e) r
 
--- the line of a good entry has at most 70 bytes, and its yearly need is the nearest whole number
+-- The line of a good entry has at most so many bytes, and its yearly need is the nearest whole
+-- number.
 abbrev pub LineLaw : Type 0
 LineLaw = (e : Item) → Good e
-    → (length (line_of e) ≤ 70) × Held (λ m. Nearest (12 * e.count) m (need e.count m)) e.months
+    → (length (line_of e) ≤ LINE_LIMIT)
+    × Held (λ m. Nearest (12 * e.count) m (need e.count m)) e.months
 
 -- only one number is the nearest
 abbrev pub NearestLaw : Type 0

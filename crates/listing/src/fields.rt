@@ -3,17 +3,18 @@ ghost use Rattle.std.specs.Prelude.{◌≡◌, ℕ, List, [], ◌∷◌, ◌++�
 ghost use Rattle.std.specs.Fmt.{signed_decimal};
 ghost use Rattle.listing.specs.Lines.{shown};
 
+use crate::line::LINE_LIMIT;
 use buffer::Buffer;
 
-// Room for the line of any good entry, which has 70 bytes at most.
-pub(crate) type Line = Buffer<70>;
+// Room for the line of any good entry.
+pub(crate) type Line = Buffer<LINE_LIMIT>;
 
 // What a field may hold: its text is put behind what a line has.
 pub(crate) trait Shown {
     ghost text: { Self → List ℕ };
 
     fn put(self, line: &mut Line)
-        ensures { line.new ≡ take 70 (line.old ++ text self) };
+        ensures { line.new ≡ take LINE_LIMIT (line.old ++ text self) };
 }
 
 impl Shown for &[u8] {
@@ -54,7 +55,7 @@ impl Shown for i8 {
 // A number in decimal, the last digit last. By hand, since `write!` may fail, as far as its
 // contract says, and the line of a good entry may not.
 fn put_decimal(line: &mut Line, n: u32)
-    ensures { line.new ≡ take 70 (line.old ++ decimal n) }
+    ensures { line.new ≡ take LINE_LIMIT (line.old ++ decimal n) }
 {
     if n >= 10 {
         put_decimal(line, n / 10);
@@ -65,7 +66,7 @@ fn put_decimal(line: &mut Line, n: u32)
 
 // A field, or a dash where there is none, and the byte that ends it.
 pub(crate) fn put_field<T: Shown>(line: &mut Line, field: Option<T>, stop: u8)
-    ensures { line.new ≡ take 70 (line.old ++ (shown T.text field ++ (stop ∷ []))) }
+    ensures { line.new ≡ take LINE_LIMIT (line.old ++ (shown T.text field ++ (stop ∷ []))) }
 {
     match field {
         Some(value) => value.put(line),

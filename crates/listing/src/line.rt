@@ -11,6 +11,9 @@ use sheet::entry::Entry;
 use sheet::forms::is_good;
 use sheet::writing::put;
 
+/// The most bytes that the line of a good entry has.
+pub const LINE_LIMIT: usize = 70;
+
 // The line of a good entry.
 fn compose(e: Entry<&[u8]>) -> Line
     requires { Good (item_of e) }

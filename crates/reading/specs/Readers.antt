@@ -1,4 +1,5 @@
--- A reader by the entries that are left to it, and one call on it.
+-- A reader by the entries that are left to it, and one call on it. No contract of a public function
+-- cites it.
 use Rattle.std.specs.Prelude.{◌≡◌, List, ◌∷◌, drop, Some, Option}
 use Rattle.sheet.specs.declared.reader.Reader.{Reader}
 use Rattle.sheet.specs.Entries.{Item, AllGood, sheet_of}

@@ -12,7 +12,7 @@ use Rattle.streams.specs.Streams.{WritesFront, Wrote}
 use Rattle.listing.specs.Lines.{line_of, Lined, LineLaw}
 use Rattle.report.specs.Lists.{list_of}
 
--- a good entry's line has room in a row of 70 bytes
+-- a good entry's line has room in a row
 pub row_fits : LineLaw → (e : Item) (old new : List ℕ) (f : Placed SheetFault) → length old ≡ 70 → Lined old new 0 e (Err f) → Good e → ⊥
 row_fits law e old new f l s g = ⊎_elim (λ v. v.1 g) (λ r. omega (arith, r.2, (law e g).0)) s.1
 

@@ -68,8 +68,8 @@ pub data RefusedInput (input : List ℕ) (f : Placed ConsoleFault) : Type 0 wher
       → IsRefusal console_faults (malformed (length input)) f → RefusedInput input f
   delivery : (p : Parts) → Limits p → wire p ≡ input → Refused p f → RefusedInput input f
 
--- What judging an input answers: the first n bytes of the buffer o' are the sheet of the list that it
--- delivers; or why it is refused, and then it delivers no list.
+-- What judging an input answers: the first n bytes of the buffer o' are the sheet of the list that
+-- it delivers; or why it is refused, and then it delivers no list.
 abbrev pub Judged : (input o' : List ℕ) → Result ℕ (Placed ConsoleFault) → Type 0
 Judged input o' (Ok n) =
     (es : List Item) × DeliversOnly input es × AllGood es

@@ -5,7 +5,7 @@ ghost use Rattle.streams.specs.Streams.{Wrote};
 ghost use Rattle.listing.specs.Lines.{line_of};
 ghost use Rattle.report.specs.Lists.{list_of};
 
-use listing::line::line;
+use listing::line::{LINE_LIMIT, line};
 use sheet::entry::Entry;
 use sheet::reader::Reader;
 use std::io;
@@ -23,7 +23,7 @@ fn write_line<W: Write>(output: &mut W, entry: Entry<&[u8]>) -> io::Result<()>
         → Wrote (W.contents output.old) (W.contents output.new)
         (line_of (item_of entry.entry)) result }
 {
-    let mut row = [0; 70];
+    let mut row = [0; LINE_LIMIT];
     match line(entry, &mut row, 0) {
         Ok(end) => put(output, &row[..end]),
         Err(_) => Err(untested()),

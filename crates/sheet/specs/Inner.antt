@@ -35,8 +35,8 @@ pub record Ends (b r : Bor (List ℕ)) : Type 0 where
   pub is : r.now ≡ drop (length b.now - length r.now) b.now
   pub lies : Lies b.ref_ptr (length b.now - length r.now) r
 
--- Whether the list es can be written from the start of a buffer with so much room, and where it ends
--- then.
+-- Whether the list es can be written from the start of a buffer with so much room, and where it
+-- ends then.
 abbrev pub Measured : (es : List Item) (room : ℕ) → Result ℕ (Placed SheetFault) → Type 0
 Measured es room (Ok n) = AllGood es × (n ≡ length (sheet_of es)) × (n ≤ room)
 Measured es room (Err f) = NotAll es room f

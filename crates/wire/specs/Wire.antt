@@ -17,13 +17,15 @@ pub record Parts : Type 0 where
   pub ciphertext : List ℕ
   pub tag : List ℕ
 
--- how long a header and a ciphertext may be, and one more than the longest delivery has
+-- how many bytes a header may have
 abbrev pub header_limit : ℕ
 header_limit = 4096
 
+-- how many bytes a ciphertext may have
 abbrev pub ciphertext_limit : ℕ
 ciphertext_limit = 16384
 
+-- one byte more than the longest delivery has
 abbrev pub input_limit : ℕ
 input_limit = 20520
 
@@ -75,13 +77,13 @@ Parsed input (Err e) =
     IsRefusal console_faults (malformed (length input)) e
     × ((p : Parts) → Limits p → wire p ≢ input)
 
--- the same, before a refusal has its place
+-- The same, before a refusal has its place. No contract of a public function cites it.
 abbrev pub Found : List ℕ → Option Delivery → Type 0
 Found input (Some d) = Limits (parts_of d) × (wire (parts_of d) ≡ input)
 Found input None = (p : Parts) → Limits p → wire p ≢ input
 
--- what a cut at the front answers: a piece of which P holds, and which w writes as bytes, and the
--- rest; or that there is none
+-- What a cut at the front answers: a piece of which P holds, and which w writes as bytes, and the
+-- rest; or that there is none. No contract of a public function cites it, or what follows.
 abbrev pub Taken : (P : List ℕ → Type 0) (w : List ℕ → List ℕ) (input : List ℕ)
     → Option (Bor (List ℕ) × Bor (List ℕ)) → Type 0
 Taken P w input (Some x) = P x.0.now × (w x.0.now ++ x.1.now ≡ input)
