@@ -1,8 +1,8 @@
 -- What is shown for a list of entries and what is asked of it, and for an input.
-use Rattle.std.specs.Prelude.{◌≡◌, ℕ, ◌⊎◌, List, [], ◌∷◌, ◌++◌, codes, decimal, Some, None, Option}
+use Rattle.std.specs.Prelude.{◌≡◌, ℕ, ◌⊎◌, List, [], ◌∷◌, ◌++◌, codes, decimal}
+use Rattle.std.specs.Prelude.{Some, None, Option, Result}
 use Rattle.std.specs.Fmt.{signed_decimal}
 use Rattle.std.specs.Option.{option_map}
-use Rattle.std.specs.Io.KnownBytes.{Appends}
 use Rattle.fault.specs.declared.kinds.ConsoleFault.{ConsoleFault}
 use Rattle.fault.specs.declared.kinds.Placed.{Placed}
 use Rattle.sheet.specs.declared.entry.Kind.{Kind}
@@ -11,9 +11,8 @@ use Rattle.sheet.specs.Entries.{Item}
 use Rattle.listing.specs.Lines.{line_of}
 use Rattle.reading.specs.declared.script.Ask.{Ask}
 use Rattle.reading.specs.declared.script.Ask.TheVariants.{Next, Field}
-use Rattle.streams.specs.Streams.{ReadsUpTo}
-use Rattle.wire.specs.Wire.{input_limit}
 use Rattle.report.specs.Report.{Delivers, DeliversOnly, RefusedInput}
+use Rattle.report.specs.Runs.{RanBy}
 use Rattle.browse.specs.Shown.{a_line, refusal_text}
 
 -- a field of an entry as text, if the entry has it
@@ -52,11 +51,8 @@ Browsed input asks text =
     ⊎ ((f : Placed ConsoleFault) × ((es : List Item) → Delivers input es → ⊥)
     × RefusedInput input f × (text ≡ refusal_text f))
 
--- That text, and nothing else, was written.
-abbrev pub Shows : (input : List ℕ) → List Ask → (held held' : Option (List ℕ)) → Type 0
-Shows input asks held held' = (text : List ℕ) × Browsed input asks text × Appends held held' text
-
--- The input was read, as far as one byte past the longest delivery, and its text was written.
-abbrev pub Ran : List Ask → (left left' held held' : Option (List ℕ)) → Type 0
-Ran asks left left' held held' =
-    (input : List ℕ) × ReadsUpTo input_limit left left' input × Shows input asks held held'
+-- A run: that text was written for the input that was read, or a front of it at a failure.
+abbrev pub Ran : {E : Type 0} (asks : List Ask) (left left' held held' : Option (List ℕ))
+    → Result (Unit {0}) E → Type 0
+Ran asks left left' held held' r =
+    RanBy (λ input text. Browsed input asks text) left left' held held' r

@@ -35,6 +35,12 @@ fn main(rt: HostRuntime) -> anyhow::Result<()> {
             None => return Err(anyhow!("{word} is no call; the calls are {WORDS}")),
         }
     }
-    run(&mut rt.stdin(), &mut rt.stdout(), &mut opened, &mut calls)?;
+    run(
+        rt.alloc(),
+        &mut rt.stdin(),
+        &mut rt.stdout(),
+        &mut opened,
+        &mut calls,
+    )?;
     Ok(())
 }

@@ -6,7 +6,7 @@ ghost use Rattle.listing.specs.Lines.{line_of};
 ghost use Rattle.browse.specs.Shown.{a_line, field_text, reply_text};
 
 use fault::shown::Fault;
-use listing::line::line;
+use listing::line::{LINE_LIMIT, line};
 use reading::Reply;
 use sheet::entry::{Entry, Field};
 use std::io;
@@ -53,7 +53,7 @@ fn show_entry<W: Write>(output: &mut W, entry: Entry<&[u8]>) -> io::Result<()>
     ensures { OnOk result (Appends (W.contents output.old) (W.contents output.new)
         (line_of (item_of entry.entry))) }
 {
-    let mut row = [0; 70];
+    let mut row = [0; LINE_LIMIT];
     match line(entry, &mut row, 0) {
         Ok(end) => put(output, &row[..end]),
         Err(_) => Err(Error::from(ErrorKind::InvalidData)),

@@ -22,7 +22,7 @@ fn written(alloc: Global, input: &[u8], words: &[&str]) -> anyhow::Result<Vec<u8
     }
     let mut text = Vec::new(alloc);
     let mut reader = input;
-    run(&mut reader, &mut text, &mut opened, &mut calls)?;
+    run(alloc, &mut reader, &mut text, &mut opened, &mut calls)?;
     Ok(text)
 }
 

@@ -1,5 +1,4 @@
 use Rattle.std.proofs.Common.{rules, ◌≤◌, length}
-use Rattle.std.proofs.lemmas.Result.{on_ok_weaker}
 use Rattle.delivery.specs.Told.{suite_of}
 use Rattle.delivery.proofs.Opening.{told}
 use Rattle.wire.specs.Wire.{ciphertext_limit, parts_of}
@@ -16,7 +15,7 @@ returns-in-Ok g c input parsed =
     let s = told (suite_of p.suite) p.suite p.key p.header p.ciphertext p.tag c.args.opened.now c.play.result.buffer.now c.play.result.outcome e.unlisted e.listed in
     let cs' = c.play.new.calls in
     let text = played input d parsed _ _ c.play.result.outcome s c.in-Ok.field-0 c.in-Ok.is _ c.args.calls.now cs' e.answered in
-    on_ok_weaker c.show_all.result (λ h. (replies_text (replies_of cs'), text, h)) c.show_all.ensures
+    (replies_text (replies_of cs'), text, c.show_all.ensures)
 
 pub returns-in-Err : goal.returns-in-Err
 returns-in-Err g c input parsed =
@@ -27,4 +26,4 @@ returns-in-Err g c input parsed =
     let room : ciphertext_limit ≤ length c.args.opened.now = search rules in
     let f = c.into.result in
     let text = no_sheet input d parsed _ _ c.play.result.outcome s room (asks_of c.args.calls.now) c.in-Err.fault c.in-Err.is f c.into.ensures in
-    on_ok_weaker c.refuse.result (λ h. (refusal_text f, text, h)) c.refuse.ensures
+    (refusal_text f, text, c.refuse.ensures)

@@ -1,12 +1,9 @@
-use Rattle.std.proofs.Common.{take}
-use Rattle.std.proofs.lemmas.Result.{on_ok_weaker}
-use Rattle.browse.specs.Shown.{refusal_text}
-use Rattle.browse.proofs.Playing.{no_delivery}
+use Rattle.std.proofs.Common.{take, ◌∙◌}
 use Rattle.reading.specs.Replies.{asks_of}
+use Rattle.browse.proofs.Playing.{ran}
 use Rattle.browse.proofs.browsing.run.Goals as goal
 
-pub returns-in-Err : goal.returns-in-Err
-returns-in-Err g c =
-    let input = take c.in_ok-len.len c.fill.new.buffer in
-    let f = c.in-Err.fault in
-    on_ok_weaker c.refuse.result (λ h. (input, c.in_ok-len.ensures.filled, (refusal_text f, no_delivery input (asks_of c.args.calls.now) f c.in-Err.ensures, h))) c.refuse.ensures
+pub returns : goal.returns
+returns g c =
+    let t = c.in_ok-text.ensures in
+    ran (asks_of c.args.calls.now) _ _ _ _ (take c.in_ok-len.len c.fill.new.buffer) t.0 c.as_slice.result.now c.put.result c.in_ok-len.ensures.filled t.1 (c.as_slice.ensures.value ∙ t.2) c.put.ensures
