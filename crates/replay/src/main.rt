@@ -6,6 +6,8 @@ mod lines;
 mod playing;
 mod report;
 mod script;
+#[cfg(test)]
+mod tests;
 
 use anyhow::anyhow;
 use playing::run;
