@@ -1,7 +1,7 @@
 //! AES-128 of FIPS 197 with ten rounds, and the same with four whole rounds, both ways.
 //!
-//! A function whose name ends in `_stands` does nothing: its contract is a theorem, and the crate is
-//! refused without the proof.
+//! A function whose name ends in `_stands` does nothing: its contract is a theorem, and the crate
+//! is refused without the proof.
 #![tactic(auto)]
 
 ghost use Rattle.std.specs.Prelude.{◌≡◌, ℕ, ◌+◌, ◌-◌, ◌<◌, List, map, length, slice_index};

@@ -1,24 +1,25 @@
 //! The steps of AES in a tower of fields, by permutes of vectors.
 //!
 //! The method is Mike Hamburg's, "Accelerating AES with Vector Permute Instructions", CHES 2009. A
-//! table of sixteen bytes fits into a vector, and one permute of that vector looks up sixteen places
-//! in it at once. So no byte of the key or the message is ever the address of a load, and the cache
-//! tells nothing of them. Sums below are exclusive or, in every field.
+//! table of sixteen bytes fits into a vector, and one permute of that vector looks up sixteen
+//! places in it at once. So no byte of the key or the message is ever the address of a load, and
+//! the cache tells nothing of them. Sums below are exclusive or, in every field.
 //!
 //! Look-ups by halves. A byte has 256 values and a table sixteen places, so a byte is looked up by
 //! its lower and its upper half. A map that is linear over the bits needs no more: it is the sum of
 //! what it makes of the two halves (`HalfTables`). The one part of AES that is not linear is the
 //! inverse that SubBytes begins with; the tower is where an inverse can be looked up by halves.
 //!
-//! The field of sixteen elements. The bits of an element, lowest first, stand for 1, x, x^2 and x^4,
-//! where x^4 + x^3 + x^2 + x + 1 = 0. So 1, 2, 4, 15, 8 are the powers of x, and 7 times 14 is 1.
+//! The field of sixteen elements. The bits of an element, lowest first, stand for 1, x, x^2 and
+//! x^4, where x^4 + x^3 + x^2 + x + 1 = 0. So 1, 2, 4, 15, 8 are the powers of x, and 7 times 14 is
+//! 1.
 //!
 //! The tower. An element t with t^2 = t + 14 makes of it a field of 256 elements: the byte with the
 //! upper half i and the lower half k is i + k t. There is one such field but for the names of its
 //! elements, so the field of AES goes over into it: f takes 2, the x of FIPS 197, to the byte 166,
 //! which solves the same equation here, and takes sums to sums and products to products. A state in
-//! the tower has 7 f(b) for each byte b (`INTO_TOWER`). The factor 7 is the method's choice; what is
-//! looked up later takes it back.
+//! the tower has 7 f(b) for each byte b (`INTO_TOWER`). The factor 7 is the method's choice; what
+//! is looked up later takes it back.
 //!
 //! The inverse of y = i + k t. With j = i + k it is y = i (t + 1) + j t, and t + 1 is the other
 //! solution of the equation of t. So the product of y and i t + j (t + 1) lies in the small field:
@@ -36,10 +37,10 @@
 //! looked up at place J (`InverseTables`).
 //!
 //! No element. 1/0 and 7/0 stand for no element; a sum with no element is none, and 1 over none is
-//! 0. The byte 128 stands for it: elements have four bits, so it stays in a sum, and a permute gives
-//! 0 at a place of 128 or more. So if I or J is none, its part of the inverse is 0. At y = 0 both
-//! 1/0 and 7/0 are 128, so their sum is 0, and 1 over that is 128 again: I and J are none, and the
-//! inverse is 0, as AES takes the inverse of 0 to be.
+//! zero. The byte 128 stands for it: elements have four bits, so it stays in a sum, and a permute
+//! gives 0 at a place of 128 or more. So if I or J is none, its part of the inverse is 0. At y = 0
+//! both 1/0 and 7/0 are 128, so their sum is 0, and 1 over that is 128 again: I and J are none, and
+//! the inverse is 0, as AES takes the inverse of 0 to be.
 //!
 //! The constant of SubBytes. MixColumns takes a column of four equal bytes to itself, since
 //! 2 + 3 + 1 + 1 = 1. So the constant, 99, may as well be added after MixColumns, with the round

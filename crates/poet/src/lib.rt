@@ -1,7 +1,7 @@
 //! POET v2.0 as definitions and laws, over functions of which only their laws are known.
 //!
-//! A function whose name ends in `_stands` does nothing: its contract is a theorem, and the crate is
-//! refused without the proof.
+//! A function whose name ends in `_stands` does nothing: its contract is a theorem, and the crate
+//! is refused without the proof.
 #![tactic(auto)]
 
 ghost use Rattle.poet.specs.Laws.{ComputingLaw, LawfulSome, OnlyLaw, OpeningLaw, OpeningPrefix};

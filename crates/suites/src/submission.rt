@@ -1,5 +1,5 @@
-//! The suites of the POET v2.0 submission without intermediate tags: POET-AES10-AES4, whose chaining
-//! hash has four rounds, and POET-AES10-AES10, where it has ten.
+//! The suites of the POET v2.0 submission without intermediate tags: POET-AES10-AES4, whose
+//! chaining hash has four rounds, and POET-AES10-AES10, where it has ten.
 ghost use Rattle.forms.specs.Keyed.{key_of};
 ghost use Rattle.forms.specs.Submitted.{submitted_by, zeros};
 ghost use Rattle.forms.proofs.Forming.{submitted_lawful, zeros_block};
