@@ -26,40 +26,47 @@ const ENTRY: &[u8; 12] = b"\x00\x05DOORSH01\x00\x02";
 // down.
 const NEEDS: &[u8; 28] = b"\x00\x15DOORSH01\x00\x01\x00\x18\x00\x15DOORSH02\x00\x01\x00\x19";
 
+// Sheets that are sealed under these suites, and accepted.
+const ACCEPTED: [(u8, &[u8]); 5] = [
+    (SHAFT, SHEET),
+    (SHAFT, NEEDS),
+    (POET_AES_FOUR, ENTRY),
+    (POET_AES_TEN, ENTRY),
+    (MIRROR, ENTRY),
+];
+
+// An entry cut short, one with an unknown bit, one without a count, one with the count 0, and a good
+// one with a byte behind it.
+const BROKEN: [&[u8]; 5] = [
+    b"\x00",
+    b"\x00\x45DOORSH01\x00\x02",
+    b"\x00\x01DOORSH01",
+    b"\x00\x05DOORSH01\x00\x00",
+    b"\x00\x05DOORSH01\x00\x02\x00",
+];
+
 /// Writes the deliveries, each with what is printed for it.
 pub(crate) fn deliveries<W: Write>(alloc: Global, writer: &mut W) -> anyhow::Result<()> {
-    let mut sealed = delivery(alloc, SHAFT, SHEET)?;
-    show(writer, &sealed)?;
-    show(writer, &delivery(alloc, SHAFT, NEEDS)?)?;
-    for suite in [POET_AES_FOUR, POET_AES_TEN, MIRROR] {
-        show(writer, &delivery(alloc, suite, ENTRY)?)?;
+    for (suite, sheet) in ACCEPTED {
+        show(writer, &delivery(alloc, suite, sheet)?)?;
     }
-    // cut short
+    altered(alloc, writer)?;
+    forgeries(alloc, writer)?;
+    for sheet in BROKEN {
+        show(writer, &delivery(alloc, SHAFT, sheet)?)?;
+    }
+    Ok(())
+}
+
+// A delivery cut short, one of a suite that is not listed, and one with no ciphertext.
+fn altered<W: Write>(alloc: Global, writer: &mut W) -> anyhow::Result<()> {
+    let mut sealed = delivery(alloc, SHAFT, SHEET)?;
     show(writer, &sealed[..sealed.len().saturating_sub(1)])?;
-    // a suite that is not listed
     if let Some(suite) = sealed.first_mut() {
         *suite = 9;
     }
     show(writer, &sealed)?;
-    // no ciphertext
-    show(writer, &assembled(alloc, SHAFT, &[], &[0; 16])?)?;
-    forgeries(alloc, writer)?;
-    // an entry cut short, one with an unknown bit, one without a count, and one with the count 0
-    show(writer, &delivery(alloc, SHAFT, b"\x00")?)?;
-    show(
-        writer,
-        &delivery(alloc, SHAFT, b"\x00\x45DOORSH01\x00\x02")?,
-    )?;
-    show(writer, &delivery(alloc, SHAFT, b"\x00\x01DOORSH01")?)?;
-    show(
-        writer,
-        &delivery(alloc, SHAFT, b"\x00\x05DOORSH01\x00\x00")?,
-    )?;
-    // a good entry and a byte
-    show(
-        writer,
-        &delivery(alloc, SHAFT, b"\x00\x05DOORSH01\x00\x02\x00")?,
-    )
+    show(writer, &assembled(alloc, SHAFT, &[], &[0; 16])?)
 }
 
 // A tag whose last bit is turned, and one that passes the second test of an opening alone.
