@@ -1,6 +1,6 @@
 -- Opening a delivered sheet: a list of entries, written and sealed under a key and a header.
 use Rattle.std.specs.Prelude.{◌≡◌, ℕ, ◌<◌, ◌≤◌, ◌⊎◌, ◌↔◌, List, ◌++◌, length, take, drop, replicate}
-use Rattle.std.specs.Prelude.{Some, None, Ok, Err, IsOk, IfOk, IfErr, Option, Result}
+use Rattle.std.specs.Prelude.{Some, None, Ok, Err, IsOk, IfOk, IfErr, Result}
 use Rattle.fault.specs.declared.kinds.SessionFault.{SessionFault}
 use Rattle.fault.specs.declared.kinds.SheetFault.{SheetFault}
 use Rattle.fault.specs.declared.kinds.SheetFault.TheVariants.{Session}

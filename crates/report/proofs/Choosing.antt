@@ -15,7 +15,6 @@ use Rattle.poet.proofs.Accepting.{opening_law, tag_law}
 use Rattle.suites.specs.declared.listed.Listed.{Listed}
 use Rattle.suites.specs.Listed.{functions_of, listed}
 use Rattle.suites.proofs.Lawful.{listed_lawful}
-use Rattle.sheet.specs.Entries.{Item}
 use Rattle.sheet.specs.Calls.{Broken}
 use Rattle.sheet.proofs.Fields.{Octets, octets_left, octets_right}
 use Rattle.sheet.proofs.Decoding.{broken}
