@@ -15,11 +15,11 @@ use Rattle.sheet.specs.Entries.{CodeForm, NumberForm, LandingForm, DrawingForm, 
 
 -- the bytes s are a field of a kind, and it has its form
 abbrev pub IsField : Kind → List ℕ → Type 0
-IsField Code s = CodeForm 0 s
-IsField Parent s = CodeForm 1 s
-IsField Count s = (n : ℕ) × NumberForm 2 n × (s ≡ two n)
+IsField Code s = CodeForm (bit_of Code) s
+IsField Parent s = CodeForm (bit_of Parent) s
+IsField Count s = (n : ℕ) × NumberForm (bit_of Count) n × (s ≡ two n)
 IsField Landing s = (z : ℤ) × LandingForm z × (s ≡ one z)
-IsField Months s = (n : ℕ) × NumberForm 4 n × (s ≡ two n)
+IsField Months s = (n : ℕ) × NumberForm (bit_of Months) n × (s ≡ two n)
 IsField Drawing s = (d : List ℕ) × DrawingForm d × (s ≡ counted d)
 
 -- good fields of these kinds, end to end
@@ -30,7 +30,7 @@ AreFields (k ∷ ks) s = (a : List ℕ) × (b : List ℕ) × IsField k a × AreF
 -- A drawing is cut short where its length is missing, or is as it should be but fewer bytes follow.
 abbrev pub IsDrawingCut : List ℕ → Type 0
 IsDrawingCut [] = Unit {0}
-IsDrawingCut (n ∷ s) = (in_row 5 (pos n) ≡ true) × (length s < n)
+IsDrawingCut (n ∷ s) = (in_row (bit_of Drawing) (pos n) ≡ true) × (length s < n)
 
 -- the bytes r end before the field does that begins with them
 abbrev pub IsCut : Kind → List ℕ → Type 0

@@ -17,10 +17,11 @@ use Rattle.sheet.specs.declared.entry.Kind.TheVariants as kind
 use Rattle.sheet.specs.Entries.{Item, Held, Good, AllGood, bytes, sheet_of, Lent, item_of}
 use Rattle.sheet.specs.Breaks.{RefusedAt}
 
--- the refusals of the calls that write, at a place: a value is outside its form; there is no room
+-- what a call that writes refuses with at a place: a value is outside its form
 abbrev pub bad_value : ℕ → Refusal SheetFault
 bad_value at = refusal Value 13 SheetLayer at
 
+-- ... there is no room
 abbrev pub no_room : ℕ → Refusal SheetFault
 no_room at = refusal Room 6 SheetLayer at
 

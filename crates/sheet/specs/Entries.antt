@@ -9,7 +9,9 @@ use Rattle.std.specs.List.{list_all}
 use Rattle.std.specs.Borrow.{Bor}
 use Rattle.std.specs.Option.{option_map}
 use Rattle.sheet.specs.declared.entry.Entry.{Entry}
-use Rattle.sheet.specs.Table.{row_of, in_row}
+use Rattle.sheet.specs.declared.entry.Kind.TheVariants.{Code, Parent, Count}
+use Rattle.sheet.specs.declared.entry.Kind.TheVariants.{Landing, Months, Drawing}
+use Rattle.sheet.specs.Table.{bit_of, row_of, in_row}
 
 -- what an entry says; a field that may be left out is an option
 pub record Item : Type 0 where
@@ -27,7 +29,7 @@ sign slash b = (nat_le 65 b && nat_le b 90) || ((nat_le 48 b && nat_le b 57) || 
 abbrev pub signs : Bool → List ℕ → Bool
 signs slash s = list_all (sign slash) s
 
--- the forms of the fields, by the rows of the table
+-- the forms of the fields, by the rows of the table; k is the bit of the field
 abbrev pub CodeForm : ℕ → List ℕ → Type 0
 CodeForm k s = (length s ≡ (row_of k).width) × (signs false s ≡ true)
 
@@ -35,10 +37,10 @@ abbrev pub NumberForm : ℕ → ℕ → Type 0
 NumberForm k n = in_row k (pos n) ≡ true
 
 abbrev pub LandingForm : ℤ → Type 0
-LandingForm z = in_row 3 z ≡ true
+LandingForm z = in_row (bit_of Landing) z ≡ true
 
 abbrev pub DrawingForm : List ℕ → Type 0
-DrawingForm s = (in_row 5 (pos (length s)) ≡ true) × (signs true s ≡ true)
+DrawingForm s = (in_row (bit_of Drawing) (pos (length s)) ≡ true) × (signs true s ≡ true)
 
 abbrev pub Held : {A : Type 0} → (A → Type 0) → Option A → Type 0
 Held P None = Unit {0}
@@ -46,11 +48,11 @@ Held P (Some a) = P a
 
 -- every field has its form
 pub record Good (e : Item) : Type 0 where
-  pub code : CodeForm 0 e.code
-  pub parent : Held (CodeForm 1) e.parent
-  pub count : NumberForm 2 e.count
+  pub code : CodeForm (bit_of Code) e.code
+  pub parent : Held (CodeForm (bit_of Parent)) e.parent
+  pub count : NumberForm (bit_of Count) e.count
   pub landing : Held LandingForm e.landing
-  pub months : Held (NumberForm 4) e.months
+  pub months : Held (NumberForm (bit_of Months)) e.months
   pub drawing : Held DrawingForm e.drawing
 
 abbrev pub AllGood : List Item → Type 0
