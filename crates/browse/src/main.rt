@@ -12,6 +12,7 @@ use anyhow::anyhow;
 use browsing::run;
 use reading::Call;
 use std::env;
+use std::io::IsTerminal;
 use wire::parse::CIPHERTEXT_LIMIT;
 use words::{WORDS, ask_of};
 
@@ -35,9 +36,13 @@ fn main(rt: HostRuntime) -> anyhow::Result<()> {
             None => return Err(anyhow!("{word} is no call; the calls are {WORDS}")),
         }
     }
+    let mut reader = rt.stdin();
+    if reader.is_terminal() {
+        eprintln!(rt; "browse reads a delivery from the terminal, to its end (control-D)")?;
+    }
     run(
         rt.alloc(),
-        &mut rt.stdin(),
+        &mut reader,
         &mut rt.stdout(),
         &mut opened,
         &mut calls,
