@@ -1,3 +1,4 @@
 mod Numbers
 mod Keyed
 mod Encoded
+mod Reading

@@ -1,10 +1,11 @@
 -- What `parse` reads, as a number below a limit.
-use Rattle.std.proofs.Common.{rules, ◌≡◌, ℕ, ◌+◌, ◌-◌, ◌*◌, ◌<◌, ◌^◌, ◌&&◌, nat_lt, Bool, true, false, cond, List, [], ◌∷◌, length, Some, None, Ok, Err, Result, refl, sym, ap, ◌∙◌, arith}
+use Rattle.std.proofs.Common.{rules, ◌≡◌, ℕ, ◌+◌, ◌-◌, ◌*◌, ◌<◌, ◌^◌, ◌&&◌, nat_lt, Bool, true, false, cond, List, [], ◌∷◌, length, Some, None, Ok, Err, Result, refl, sym, ap, ◌∙◌, arith, ◌≤◌, ◌==◌, decimal, slice_index}
 use Rattle.std.specs.Str.{all_ascii_digits}
 use Rattle.std.specs.Str.Parse.{IsNumeral, ParsesUnsigned, digits_value, without_leading_plus}
 use Rattle.std.proofs.lemmas.Bool.{and_parts}
+use Rattle.std.proofs.lemmas.Fmt.{decimal_is_IsNumeral}
 use Rattle.std.proofs.lemmas.Bool.Decides.{nat_tests}
-use Rattle.std.proofs.lemmas.Str.Parse.{IsNumeralModel, numerals_by_fold}
+use Rattle.std.proofs.lemmas.Str.Parse.{IsNumeralModel, numerals_by_fold, digit_at}
 use Rattle.replay.specs.Lines.{are_digits, number_below}
 
 abbrev read_on : ℕ → List ℕ → ℕ
@@ -56,3 +57,15 @@ parsed k text n (Err x) p e = absurd cc
 pub unparsed : {E : Type 0} (k : ℕ) (text : List ℕ) (x : E) (r : Result ℕ E) → ParsesUnsigned k 10 text r → r ≡ Err x → number_below (2 ^ k) text ≡ None
 unparsed k text x (Ok m) p e = absurd cc
 unparsed k text x (Err y) p e = none_by (2 ^ k) (without_leading_plus text) (test (2 ^ k) (without_leading_plus text)) refl p
+
+no_plus : (c : ℕ) → 48 ≤ c → (c == 43) ≡ false
+no_plus c h = grind (arith, nat_tests)
+
+-- what `decimal` writes
+pub written : (limit n : ℕ) → n < limit → n < 2 ^ 64 → number_below limit (decimal n) ≡ Some n
+written limit n less small =
+    let ds = decimal n in
+    let (numeral_n, is) = decimal_is_IsNumeral n small in
+    let plain : without_leading_plus ds ≡ ds = rw (no_plus (slice_index ds 0) (digit_at ds 0 numeral_n.1 numeral_n.0).0) refl in
+    let below_limit : digits_value 10 ds < limit = rw is less in
+    ap (λ (t : List ℕ). cond (test limit t) (Some (digits_value 10 t)) None) plain ∙ some limit ds numeral_n below_limit ∙ ap Some is

@@ -3,3 +3,4 @@ pub mod Scripts
 pub mod Texts
 pub mod Outcomes
 pub mod Runs
+pub mod Sessions

@@ -20,8 +20,8 @@ use Rattle.replay.specs.declared.lines.Piece.{Piece}
 use Rattle.replay.specs.declared.lines.Rule.{Rule}
 use Rattle.replay.specs.declared.report.Outcome.{Outcome}
 use Rattle.replay.specs.declared.report.Outcome.TheVariants as outcome
-use Rattle.replay.specs.declared.script.Body.{Body}
-use Rattle.replay.specs.declared.script.Body.TheVariants as body
+use Rattle.replay.specs.declared.written.Body.{Body}
+use Rattle.replay.specs.declared.written.Body.TheVariants as body
 use Rattle.replay.specs.Lines.{Brought}
 use Rattle.replay.specs.Scripts.{Course, Sealing, Opening, Written, unwritten, after_line}
 

@@ -4,9 +4,9 @@ use Rattle.std.specs.Prelude.{map, vec_items, Some, None, Ok, Err, Option, Resul
 use Rattle.std.specs.Option.{is_some, option_map}
 use Rattle.replay.specs.declared.lines.Rule.{Rule}
 use Rattle.replay.specs.declared.lines.Rule.TheVariants.{Late, Started, NoBody, Tag}
-use Rattle.replay.specs.declared.script.Body.{Body}
-use Rattle.replay.specs.declared.script.Body.TheVariants as body
-use Rattle.replay.specs.declared.script.Script.{Script}
+use Rattle.replay.specs.declared.written.Body.{Body}
+use Rattle.replay.specs.declared.written.Body.TheVariants as body
+use Rattle.replay.specs.declared.written.Script.{Script}
 use Rattle.replay.specs.Lines.{Brought, Said, SuiteIs, KeyIs, HeaderCall, SealStart, OpenStart}
 use Rattle.replay.specs.Lines.{BodyCall, FinishCall, ◌>>=◌, said_by, brought_in}
 

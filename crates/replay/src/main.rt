@@ -5,9 +5,9 @@
 mod lines;
 mod playing;
 mod report;
-mod script;
 #[cfg(test)]
 mod tests;
+mod written;
 
 use anyhow::anyhow;
 use playing::run;

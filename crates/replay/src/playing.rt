@@ -11,7 +11,7 @@ ghost use Rattle.suites.specs.Listed.{listed};
 
 use crate::lines::{Piece, Unread};
 use crate::report::Outcome;
-use crate::script::{Body, Script};
+use crate::written::{Body, Script};
 use script::{Course, Stretch, play};
 use session::keys::KeyPlace;
 use std::alloc::{AllocError, Global};

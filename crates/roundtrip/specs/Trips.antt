@@ -44,8 +44,8 @@ pub record Tripped (f : Functions) (n : ℕ) (t : Trip) : Type 0 where
   pub sealed : t.sealed ≡ Ok (length message)
   pub seals : Seals f label message t.ciphertext t.tag
   pub opened : t.opened.answer ≡ Ok (length message)
-  pub message : t.opened.buffer ≡ message
-  pub turned : Opens f t.ciphertext (turned t.tag) t.turned
+  pub given : t.opened.buffer ≡ message
+  pub other : Opens f t.ciphertext (turned t.tag) t.turned
 
 -- the suite with the number n is listed, and this is what came of it
 abbrev pub TrippedUnder : ℕ → Trip → Type 0

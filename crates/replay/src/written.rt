@@ -3,6 +3,7 @@
 ghost use Rattle.std.specs.Prelude.{◌≡◌, Ok};
 ghost use Rattle.replay.specs.Lines as lines;
 ghost use Rattle.replay.specs.Scripts as scripts;
+ghost use Rattle.replay.specs.Sessions as sessions;
 
 use crate::lines::{Line, Piece, Rule, Unread};
 use std::alloc::Global;
@@ -163,3 +164,9 @@ impl Script {
         Ok(())
     }
 }
+
+/// Every session has lines that are read as that session: nothing that a caller's program could do
+/// is left out.
+pub(crate) fn sessions_stand()
+    ensures { sessions.WrittenLaw }
+{}
