@@ -4,10 +4,11 @@
 //!
 //! The expected values are those that `tools/seals.py` prints, which shares no code with the
 //! crates.
-use delivery::message::{open, seal};
+use crate::chains::{KEY, key_from, pattern, sealed};
+use crate::samples::{holds, refused, same};
+use delivery::message::open;
 use fault::kinds::SessionFault;
-use std::alloc::{AllocError, Global};
-use std::array;
+use std::alloc::Global;
 use std::process::Abort;
 use std::test::Fail;
 
@@ -44,132 +45,77 @@ const EXPECTED: [Expected; 3] = [
     },
 ];
 
-// Bytes that go up by `step`.
-fn pattern(heap: Global, len: usize, step: u8, start: u8) -> Result<Vec<u8>, AllocError> {
-    let mut bytes = Vec::new(heap);
-    let mut b = start;
-    for _ in 0..len {
-        bytes.push(b)?;
-        b = b.wrapping_add(step);
-    }
-    Ok(bytes)
-}
-
-// Seals and opens again. Answers the ciphertext and the tag.
-fn sealed(
-    rt: &impl Abort,
-    heap: Global,
-    suite: u8,
-    key: [u8; 16],
-    header: &[u8],
-    message: &[u8],
-) -> Result<(Vec<u8>, [u8; 16]), Fail> {
-    let mut ciphertext = Vec::from_slice(heap, message)?;
-    let mut tag = [0; 16];
-    seal(
-        suite,
-        &key,
-        header,
-        message,
-        ciphertext.as_mut_slice(),
-        &mut tag,
-    )?;
-    let mut opened = Vec::from_slice(heap, message)?;
-    open(
-        suite,
-        &key,
-        header,
-        ciphertext.as_slice(),
-        &tag,
-        opened.as_mut_slice(),
-    )?;
-    assert!(rt; opened.as_slice() == message, "other message");
-    Ok((ciphertext, tag))
-}
-
-// The same with one bit of the tag turned is refused, and leaves zeros.
+// A seal with one bit of its tag turned is refused, and leaves zeros.
 fn forged(
     rt: &impl Abort,
     heap: Global,
     suite: u8,
-    key: [u8; 16],
+    key: &[u8; 16],
     header: &[u8],
     ciphertext: &[u8],
     mut tag: [u8; 16],
 ) -> Result<(), Fail> {
     tag[15] ^= 1;
-    let mut opened = Vec::from_slice(heap, ciphertext)?;
-    match open(suite, &key, header, ciphertext, &tag, opened.as_mut_slice()) {
-        Ok(_) => assert!(rt; false, "a false tag was taken"),
-        Err(refused) => assert_eq!(rt; refused.fault, SessionFault::Forged),
+    let len = ciphertext.len();
+    let mut opened = vec![in heap; 0xee; len]?;
+    let answer = open(suite, key, header, ciphertext, &tag, &mut opened);
+    holds(
+        rt,
+        answer == refused(SessionFault::Forged, len),
+        "a false tag was taken",
+        &len,
+    );
+    for b in &opened {
+        holds(rt, *b == 0, "left after a refusal", &len);
     }
-    assert!(rt; opened.iter().all(|b| *b == 0), "left after a refusal");
     Ok(())
 }
 
-// The tag, to which the ciphertext is added, is the next key.
-fn key_from(ciphertext: &[u8], mut tag: [u8; 16]) -> [u8; 16] {
-    for (i, b) in ciphertext.iter().enumerate() {
-        tag[i % 16] ^= *b;
-    }
-    tag
+// The key after a header and a message of these lengths, sealed, opened and refused.
+fn next_key(
+    rt: &impl Abort,
+    heap: Global,
+    suite: u8,
+    key: &[u8; 16],
+    lens: (usize, usize),
+    start: usize,
+) -> Result<[u8; 16], Fail> {
+    let header = pattern(heap, lens.0, 7, start)?;
+    let message = pattern(heap, lens.1, 11, start)?;
+    let (ciphertext, tag) = sealed(rt, heap, suite, key, &header, &message)?;
+    forged(rt, heap, suite, key, &header, &ciphertext, tag)?;
+    Ok(key_from(&ciphertext, tag))
 }
 
 // The key after one seal under each of the headers.
 fn after_headers(rt: &impl Abort, heap: Global, suite: u8) -> Result<[u8; 16], Fail> {
-    let mut key = array::from_fn(|i| i as u8);
+    let mut key = KEY;
     for len in HEADERS {
-        let header = pattern(heap, len, 7, (len % 256) as u8)?;
-        let message = pattern(heap, 21, 11, (len % 256) as u8)?;
-        let (ciphertext, tag) = sealed(
-            rt,
-            heap,
-            suite,
-            key,
-            header.as_slice(),
-            message.as_slice(),
-        )?;
-        forged(
-            rt,
-            heap,
-            suite,
-            key,
-            header.as_slice(),
-            ciphertext.as_slice(),
-            tag,
-        )?;
-        key = key_from(ciphertext.as_slice(), tag);
+        key = next_key(rt, heap, suite, &key, (len, 21), len)?;
     }
     Ok(key)
 }
 
 // The key after one seal of each of the messages.
 fn after_messages(rt: &impl Abort, heap: Global, suite: u8) -> Result<[u8; 16], Fail> {
-    let mut key = array::from_fn(|i| i as u8);
+    let mut key = KEY;
     for len in MESSAGES {
-        let message = pattern(heap, len, 11, (len % 256) as u8)?;
-        let (ciphertext, tag) = sealed(rt, heap, suite, key, &[], message.as_slice())?;
-        forged(rt, heap, suite, key, &[], ciphertext.as_slice(), tag)?;
-        key = key_from(ciphertext.as_slice(), tag);
+        key = next_key(rt, heap, suite, &key, (0, len), len)?;
     }
     Ok(key)
-}
-
-// One seal of the longest message.
-fn longest(rt: &impl Abort, heap: Global, expected: &Expected) -> Result<(), Fail> {
-    let key = array::from_fn(|i| i as u8);
-    let message = pattern(heap, 1048576, 11, 0)?;
-    let (ciphertext, tag) = sealed(rt, heap, expected.suite, key, &[], message.as_slice())?;
-    assert_eq!(rt; key_from(ciphertext.as_slice(), tag), expected.longest);
-    Ok(())
 }
 
 #[test]
 fn headers(rt: HostRuntime) -> Result<(), Fail> {
     for expected in &EXPECTED {
-        assert_eq!(rt;
-            after_headers(&rt, rt.alloc(), expected.suite)?,
-            expected.headers
+        let suite = expected.suite;
+        let key = after_headers(&rt, rt.alloc(), suite)?;
+        same(
+            &rt,
+            &key,
+            &expected.headers,
+            "other key under suite",
+            &suite,
         );
     }
     Ok(())
@@ -178,11 +124,26 @@ fn headers(rt: HostRuntime) -> Result<(), Fail> {
 #[test]
 fn messages(rt: HostRuntime) -> Result<(), Fail> {
     for expected in &EXPECTED {
-        assert_eq!(rt;
-            after_messages(&rt, rt.alloc(), expected.suite)?,
-            expected.messages
+        let suite = expected.suite;
+        let key = after_messages(&rt, rt.alloc(), suite)?;
+        same(
+            &rt,
+            &key,
+            &expected.messages,
+            "other key under suite",
+            &suite,
         );
     }
+    Ok(())
+}
+
+// One seal of the longest message.
+fn longest(rt: &impl Abort, heap: Global, expected: &Expected) -> Result<(), Fail> {
+    let suite = expected.suite;
+    let message = pattern(heap, 1048576, 11, 0)?;
+    let (ciphertext, tag) = sealed(rt, heap, suite, &KEY, &[], &message)?;
+    let key = key_from(&ciphertext, tag);
+    same(rt, &key, &expected.longest, "other key under suite", &suite);
     Ok(())
 }
 

@@ -1,4 +1,5 @@
 //! Figures that the mirror suite must give under the empty header.
+use crate::samples::{same, wrote};
 use session::whole::{open, seal};
 use std::test::Fail;
 use suite::{ChainingHash, HeaderDigest, Permutation, Suite};
@@ -35,37 +36,28 @@ const FIGURES: [Figure; 3] = [
 #[test]
 fn digest_of_nothing(rt: HostRuntime) {
     let tau = Mirror::set_up(KEY).digest.finish();
-    assert_eq!(rt; tau, [1, 0, 0, 0, 0, 0, 0, 0, 0, 0, 0, 0, 0, 0, 0, 0x81]);
+    let expected = [1, 0, 0, 0, 0, 0, 0, 0, 0, 0, 0, 0, 0, 0, 0, 0x81];
+    same(&rt, &tau, &expected, "other digest", &"of nothing");
 }
 
 #[test]
 fn seals(rt: HostRuntime) -> Result<(), Fail> {
-    for figure in &FIGURES {
+    for (i, figure) in FIGURES.iter().enumerate() {
         let mut out = [0xee; 20];
         let mut tag = [0xee; 16];
         let n = seal::<Mirror>(&KEY, &[], figure.message, &mut out, &mut tag)?;
-        assert_eq!(rt; n, figure.message.len());
-        assert!(rt; n <= 20);
-        assert!(rt; &out[0..n] == figure.ciphertext, "other ciphertext");
-        assert_eq!(rt; tag, figure.tag);
-        for b in &out[n..20] {
-            assert_eq!(rt; *b, 0xee, "written past the ciphertext");
-        }
+        wrote(&rt, n, &out, figure.ciphertext, &i);
+        same(&rt, &tag, &figure.tag, "other tag", &i);
     }
     Ok(())
 }
 
 #[test]
 fn opens(rt: HostRuntime) -> Result<(), Fail> {
-    for figure in &FIGURES {
+    for (i, figure) in FIGURES.iter().enumerate() {
         let mut out = [0xee; 20];
         let n = open::<Mirror>(&KEY, &[], figure.ciphertext, &figure.tag, &mut out)?;
-        assert_eq!(rt; n, figure.message.len());
-        assert!(rt; n <= 20);
-        assert!(rt; &out[0..n] == figure.message, "other message");
-        for b in &out[n..20] {
-            assert_eq!(rt; *b, 0xee, "written past the message");
-        }
+        wrote(&rt, n, &out, figure.message, &i);
     }
     Ok(())
 }

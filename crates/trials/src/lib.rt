@@ -15,6 +15,8 @@ mod published;
 #[cfg(test)]
 mod refusals;
 #[cfg(test)]
+mod samples;
+#[cfg(test)]
 mod shaft;
 #[cfg(test)]
 mod streams;

@@ -2,12 +2,12 @@
 //! suites: every key, digest, ciphertext and tag is executed and matched, through the suites with
 //! the older header digest. They are what holds four-round AES to a source from outside.
 use crate::older::OlderSuite;
+use crate::samples::{holds, same, stretches, wrote};
 use block::xor;
-use fault::kinds::{Placed, SessionFault};
-use script::{Answer, Course, End, Stretch, play};
+use script::{Answer, Course, End, play};
 use session::KeyPlace;
 use session::whole::{open, seal};
-use std::alloc::{AllocError, Global};
+use std::alloc::Global;
 use std::process::Abort;
 use std::test::Fail;
 use suite::{ChainingHash, HeaderDigest, Keyed, Permutation, Suite};
@@ -134,40 +134,40 @@ const PUBLISHED: [Published; 4] = [
 
 #[test]
 fn keys(rt: HostRuntime) {
-    for v in &PUBLISHED {
+    for (i, v) in PUBLISHED.iter().enumerate() {
         let keys = Keys::new::<Aes128>(v.delivered);
-        assert_eq!(rt; keys.cipher, v.cipher);
-        assert_eq!(rt; keys.mask, v.mask);
-        assert_eq!(rt; keys.chain, v.chain);
+        same(&rt, &keys.cipher, &v.cipher, "other key of the cipher", &i);
+        same(&rt, &keys.mask, &v.mask, "other mask", &i);
+        same(&rt, &keys.chain, &v.chain, "other key of the chain", &i);
     }
 }
 
 #[test]
 fn digests(rt: HostRuntime) {
-    for v in &PUBLISHED {
+    for (i, v) in PUBLISHED.iter().enumerate() {
         let mut digest = OlderSuite::<FourRounds>::set_up(v.delivered).digest;
         digest.absorb(v.header);
-        assert_eq!(rt; digest.finish(), v.tau);
+        same(&rt, &digest.finish(), &v.tau, "other digest", &i);
         let mut cut = OlderSuite::<Aes128>::set_up(v.delivered).digest;
         for b in v.header {
             cut.absorb(&[*b]);
         }
-        assert_eq!(rt; cut.finish(), v.tau);
+        same(&rt, &cut.finish(), &v.tau, "other digest byte by byte", &i);
     }
 }
 
 #[test]
 fn four_rounds(rt: HostRuntime) -> Result<(), Fail> {
-    for v in &PUBLISHED {
-        matches::<OlderSuite<FourRounds>>(&rt, rt.alloc(), v, &v.four)?;
+    for (i, v) in PUBLISHED.iter().enumerate() {
+        matches::<OlderSuite<FourRounds>>(&rt, rt.alloc(), v, &v.four, i)?;
     }
     Ok(())
 }
 
 #[test]
 fn ten_rounds(rt: HostRuntime) -> Result<(), Fail> {
-    for v in &PUBLISHED {
-        matches::<OlderSuite<Aes128>>(&rt, rt.alloc(), v, &v.ten)?;
+    for (i, v) in PUBLISHED.iter().enumerate() {
+        matches::<OlderSuite<Aes128>>(&rt, rt.alloc(), v, &v.ten, i)?;
     }
     Ok(())
 }
@@ -179,17 +179,29 @@ fn matches<S: Suite>(
     heap: Global,
     v: &Published,
     sealed: &Sealed,
+    case: usize,
 ) -> Result<(), Fail> {
     if v.message.is_empty() {
-        assert_eq!(rt; tag_of_nothing::<S>(v.delivered, v.header), sealed.tag);
+        let tag = tag_of_nothing::<S>(v.delivered, v.header);
+        same(rt, &tag, &sealed.tag, "other tag", &case);
         return Ok(());
     }
-    let mut out = [0; 56];
+    at_once::<S>(rt, v, sealed, case)?;
+    seals_cut::<S>(rt, heap, v, sealed, case)?;
+    opens_cut::<S>(rt, heap, v, sealed, case)
+}
+
+fn at_once<S: Suite>(
+    rt: &impl Abort,
+    v: &Published,
+    sealed: &Sealed,
+    case: usize,
+) -> Result<(), Fail> {
+    let mut out = [0xee; 56];
     let mut tag = [0; 16];
     let n = seal::<S>(&v.delivered, v.header, v.message, &mut out, &mut tag)?;
-    assert!(rt; n <= 56);
-    assert!(rt; &out[0..n] == sealed.ciphertext, "other ciphertext");
-    assert_eq!(rt; tag, sealed.tag);
+    wrote(rt, n, &out, sealed.ciphertext, &case);
+    same(rt, &tag, &sealed.tag, "other tag", &case);
     let n = open::<S>(
         &v.delivered,
         v.header,
@@ -197,65 +209,67 @@ fn matches<S: Suite>(
         &sealed.tag,
         &mut out,
     )?;
-    assert!(rt; n <= 56);
-    assert!(rt; &out[0..n] == v.message, "other message");
-    in_stretches::<S>(rt, heap, v, sealed)
+    wrote(rt, n, &out, v.message, &case);
+    Ok(())
 }
 
 // The same in stretches of seven bytes.
-fn in_stretches<S: Suite>(
+fn seals_cut<S: Suite>(
     rt: &impl Abort,
     heap: Global,
     v: &Published,
     sealed: &Sealed,
+    case: usize,
 ) -> Result<(), Fail> {
     let mut place = KeyPlace::new();
     place.fill(&v.delivered)?;
-    let headers = sevens(heap, v.header)?;
-    let bodies = sevens(heap, v.message)?;
-    let (log, end) = play::<S>(
-        heap,
-        &place,
-        &headers,
-        Course::Seal {
-            bodies: &bodies,
-            finish: true,
-        },
-    )?;
-    assert!(rt; log.out.as_slice() == sealed.ciphertext, "other ciphertext");
-    assert!(rt; matches!(end, End::Sealed { last: _, tag: t } if t == sealed.tag));
-    let bodies = sevens(heap, sealed.ciphertext)?;
-    let (log, end) = play::<S>(
-        heap,
-        &place,
-        &headers,
-        Course::Open {
-            bodies: &bodies,
-            tag: Some(&sealed.tag),
-        },
-    )?;
-    assert!(rt; log.out.as_slice() == v.message, "other message");
+    let headers = stretches(heap, v.header, 7)?;
+    let bodies = stretches(heap, v.message, 7)?;
+    let course = Course::Seal {
+        bodies: &bodies,
+        finish: true,
+    };
+    let (log, end) = play::<S>(heap, &place, &headers, course)?;
+    let out = log.out.as_slice();
+    same(
+        rt,
+        out,
+        sealed.ciphertext,
+        "other ciphertext in stretches",
+        &case,
+    );
+    let is_tag = matches!(end, End::Sealed { last: _, tag: t } if t == sealed.tag);
+    holds(rt, is_tag, "other tag in stretches", &case);
+    Ok(())
+}
+
+fn opens_cut<S: Suite>(
+    rt: &impl Abort,
+    heap: Global,
+    v: &Published,
+    sealed: &Sealed,
+    case: usize,
+) -> Result<(), Fail> {
+    let mut place = KeyPlace::new();
+    place.fill(&v.delivered)?;
+    let headers = stretches(heap, v.header, 7)?;
+    let bodies = stretches(heap, sealed.ciphertext, 7)?;
+    let course = Course::Open {
+        bodies: &bodies,
+        tag: Some(&sealed.tag),
+    };
+    let (log, end) = play::<S>(heap, &place, &headers, course)?;
+    let out = log.out.as_slice();
+    same(rt, out, v.message, "other message in stretches", &case);
     let rest = match v.message.len() % 16 {
         0 => 16,
         n => n,
     };
-    assert!(rt;
-        log.answers.last() == Some(&Answer::Finish(Ok(rest))),
-        "not accepted"
-    );
-    assert!(rt; matches!(end, End::Opened { last } if v.message.ends_with(&last[0..rest])));
+    let is_finish = log.answers.last() == Some(&Answer::Finish(Ok(rest)));
+    holds(rt, is_finish, "not accepted in stretches", &case);
+    let is_last = matches!(end, End::Opened { last } if v.message.ends_with(&last[0..rest]));
+    holds(rt, is_last, "other last bytes in stretches", &case);
     Ok(())
-}
-
-fn sevens<'a>(heap: Global, bytes: &'a [u8]) -> Result<Vec<Stretch<'a>>, AllocError> {
-    let mut all = Vec::new(heap);
-    for piece in bytes.chunks(7) {
-        all.push(Stretch {
-            bytes: piece,
-            room: 64,
-        })?;
-    }
-    Ok(all)
 }
 
 // The last row over the digest alone: all of what it gives out is the tag.

@@ -1,9 +1,9 @@
 //! Suite 1, told by its number: seals by another program, both ways, and every byte of one seal
 //! damaged.
+use crate::samples::{holds, kept, refused, same, wrote};
 use crate::vectors::VECTORS;
 use delivery::message::{open, seal};
-use fault::kinds::{Placed, SessionFault};
-use std::array;
+use fault::kinds::SessionFault;
 use std::process::Abort;
 use std::test::Fail;
 
@@ -15,90 +15,71 @@ const MESSAGE: [u8; 37] = *b"two door rollers, one guide shoe, oil";
 
 #[test]
 fn seals(rt: HostRuntime) -> Result<(), Fail> {
-    for v in &VECTORS {
+    for (i, v) in VECTORS.iter().enumerate() {
         let mut out = [0xee; 50];
         let mut tag = [0xee; 16];
         let n = seal(1, &v.key, v.header, v.message, &mut out, &mut tag)?;
-        assert_eq!(rt; n, v.message.len());
-        assert!(rt; n <= 50);
-        assert!(rt; &out[0..n] == v.ciphertext, "other ciphertext");
-        assert_eq!(rt; tag, v.tag);
-        for b in &out[n..50] {
-            assert_eq!(rt; *b, 0xee, "written past the ciphertext");
-        }
+        wrote(&rt, n, &out, v.ciphertext, &i);
+        same(&rt, &tag, &v.tag, "other tag", &i);
     }
     Ok(())
 }
 
 #[test]
 fn opens(rt: HostRuntime) -> Result<(), Fail> {
-    for v in &VECTORS {
+    for (i, v) in VECTORS.iter().enumerate() {
         let mut out = [0xee; 50];
         let n = open(1, &v.key, v.header, v.ciphertext, &v.tag, &mut out)?;
-        assert_eq!(rt; n, v.message.len());
-        assert!(rt; n <= 50);
-        assert!(rt; &out[0..n] == v.message, "other message");
-        for b in &out[n..50] {
-            assert_eq!(rt; *b, 0xee, "written past the message");
-        }
+        wrote(&rt, n, &out, v.message, &i);
     }
     Ok(())
 }
 
-// Checks that an opening with this part damaged is refused as forged, and leaves zeros where the
-// message would have stood and nothing else altered.
-fn forged(
-    rt: &impl Abort,
-    what: &str,
-    header: &[u8; 21],
-    ciphertext: &[u8; 37],
-    tag: &[u8; 16],
-) -> Result<(), Fail> {
+// A header, its ciphertext and its tag, end to end, are refused as forged, which leaves zeros where
+// the message would have been and nothing else altered.
+fn forged(rt: &impl Abort, parts: &[u8; 74], place: usize) {
     let mut out = [0xee; 40];
-    let r = open(1, &KEY, header, ciphertext, tag, &mut out);
-    assert_eq!(rt;
-        r,
-        Err(Placed {
-            fault: SessionFault::Forged,
-            place: 37,
-        }),
-        "{what}"
+    let answer = open(
+        1,
+        &KEY,
+        &parts[0..21],
+        &parts[21..58],
+        &parts[58..74],
+        &mut out,
     );
-    for (i, b) in out.iter().enumerate() {
-        let held = if i < 37 { 0 } else { 0xee };
-        assert_eq!(rt; *b, held, "other bytes after a refusal, {what}");
-    }
-    Ok(())
+    holds(
+        rt,
+        answer == refused(SessionFault::Forged, 37),
+        "taken with a byte damaged",
+        &place,
+    );
+    kept(rt, &out, 37, &place);
 }
 
-// The bytes with one bit turned, in each of them in turn.
-fn each_damaged<const N: usize>(bytes: [u8; N]) -> [[u8; N]; N] {
-    array::from_fn(|i| {
-        let mut damaged = bytes;
-        damaged[i] ^= 1;
-        damaged
-    })
-}
-
-#[test]
-fn damage_is_refused(rt: HostRuntime) -> Result<(), Fail> {
+// The header, its ciphertext and its tag, end to end.
+fn sealed(rt: &impl Abort) -> Result<[u8; 74], Fail> {
     let mut ciphertext = [0; 37];
     let mut tag = [0; 16];
-    assert_eq!(rt;
-        seal(1, &KEY, &HEADER, &MESSAGE, &mut ciphertext, &mut tag)?,
-        37
-    );
+    let n = seal(1, &KEY, &HEADER, &MESSAGE, &mut ciphertext, &mut tag)?;
+    holds(rt, n == 37, "other length", &n);
     let mut out = [0; 37];
-    assert_eq!(rt; open(1, &KEY, &HEADER, &ciphertext, &tag, &mut out)?, 37);
-    assert_eq!(rt; out, MESSAGE);
-    for damaged in each_damaged(HEADER) {
-        forged(&rt, "a byte of the header", &damaged, &ciphertext, &tag)?;
-    }
-    for damaged in each_damaged(ciphertext) {
-        forged(&rt, "a byte of the ciphertext", &HEADER, &damaged, &tag)?;
-    }
-    for damaged in each_damaged(tag) {
-        forged(&rt, "a byte of the tag", &HEADER, &ciphertext, &damaged)?;
+    let n = open(1, &KEY, &HEADER, &ciphertext, &tag, &mut out)?;
+    wrote(rt, n, &out, &MESSAGE, &"undamaged");
+    let mut parts = [0; 74];
+    parts[0..21].copy_from_slice(&HEADER);
+    parts[21..58].copy_from_slice(&ciphertext);
+    parts[58..74].copy_from_slice(&tag);
+    Ok(parts)
+}
+
+// One bit turned, in each of the bytes in turn.
+#[test]
+fn damage_is_refused(rt: HostRuntime) -> Result<(), Fail> {
+    let parts = sealed(&rt)?;
+    for i in 0..74usize {
+        let mut damaged = parts;
+        damaged[i] ^= 1;
+        forged(&rt, &damaged, i);
     }
     Ok(())
 }

@@ -3,11 +3,13 @@
 ghost use Rattle.std.specs.Prelude.{◌≤◌};
 
 use crate::caller::seal_once;
+use crate::samples::{holds, refused, same, stretches};
 use fault::kinds::{Placed, SessionFault};
 use script::{Answer, Course, End, Played, Stretch, play};
 use session::KeyPlace;
 use session::whole::seal;
-use std::alloc::{AllocError, Global};
+use std::alloc::Global;
+use std::fmt::Display;
 use std::process::Abort;
 use std::test::Fail;
 use suites::mirror::Mirror;
@@ -16,97 +18,98 @@ const MESSAGE: [u8; 40] = [7; 40];
 
 const HEADER: [u8; 21] = [9; 21];
 
-// `bytes` in stretches of `size`, each with room enough.
-fn stretches<'a>(heap: Global, bytes: &'a [u8], size: usize) -> Result<Vec<Stretch<'a>>, AllocError>
-    requires { 1 ≤ size }
-{
-    let mut all = Vec::new(heap);
-    for piece in bytes.chunks(size) {
-        all.push(Stretch {
-            bytes: piece,
-            room: 64,
-        })?;
-    }
-    Ok(all)
+const KEY: [u8; 16] = [0x2a; 16];
+
+// The seal of the message, by the call for whole buffers.
+fn whole() -> Result<([u8; 40], [u8; 16]), Fail> {
+    let mut out = [0; 40];
+    let mut tag = [0; 16];
+    seal::<Mirror>(&KEY, &HEADER, &MESSAGE, &mut out, &mut tag)?;
+    Ok((out, tag))
 }
 
 fn placed() -> Result<KeyPlace, Fail> {
     let mut place = KeyPlace::new();
-    place.fill(&[0x2a; 16])?;
+    place.fill(&KEY)?;
     Ok(place)
 }
 
-// Plays a sealing under the mirror suite.
-fn sealing<'a>(
+// Plays a session under the mirror suite.
+fn played(
     heap: Global,
     headers: &[Stretch<'_>],
-    bodies: &'a [Stretch<'a>],
-    finish: bool,
+    course: Course<'_>,
 ) -> Result<(Played, End), Fail> {
     let place = placed()?;
-    Ok(play::<Mirror>(heap, &place, headers, Course::Seal { bodies, finish })?)
+    Ok(play::<Mirror>(heap, &place, headers, course)?)
 }
 
-fn opening<'a>(
+// The message sealed in stretches of `size`.
+fn seals_cut(
+    rt: &impl Abort,
     heap: Global,
-    headers: &[Stretch<'a>],
-    bodies: &'a [Stretch<'a>],
-    tag: &'a [u8],
-) -> Result<(Played, End), Fail> {
-    let place = placed()?;
-    Ok(play::<Mirror>(
-        heap,
-        &place,
-        headers,
-        Course::Open {
-            bodies,
-            tag: Some(tag),
-        },
-    )?)
+    size: usize,
+    ciphertext: &[u8; 40],
+    tag: &[u8; 16],
+) -> Result<(), Fail>
+    requires { 1 ≤ size }
+{
+    let headers = stretches(heap, &HEADER, size)?;
+    let bodies = stretches(heap, &MESSAGE, size)?;
+    let course = Course::Seal {
+        bodies: &bodies,
+        finish: true,
+    };
+    let (log, end) = played(heap, &headers, course)?;
+    same(rt, &log.header, &HEADER, "other header taken", &size);
+    same(rt, &log.body, &MESSAGE, "other body taken", &size);
+    same(rt, &log.out, ciphertext, "other ciphertext", &size);
+    let is_tag = matches!(end, End::Sealed { last: _, tag: t } if t == *tag);
+    holds(rt, is_tag, "other tag", &size);
+    Ok(())
+}
+
+// The ciphertext opened in stretches of `size`.
+fn opens_cut(
+    rt: &impl Abort,
+    heap: Global,
+    size: usize,
+    ciphertext: &[u8; 40],
+    tag: &[u8; 16],
+) -> Result<(), Fail>
+    requires { 1 ≤ size }
+{
+    let headers = stretches(heap, &HEADER, size)?;
+    let bodies = stretches(heap, ciphertext, size)?;
+    let course = Course::Open {
+        bodies: &bodies,
+        tag: Some(tag),
+    };
+    let (log, _) = played(heap, &headers, course)?;
+    same(rt, &log.out, &MESSAGE, "other message", &size);
+    holds(rt, ends(&log, Ok(8)), "other finish", &size);
+    Ok(())
+}
+
+// The last call was a finish, and answered this.
+fn ends(log: &Played, answer: Result<usize, Placed<SessionFault>>) -> bool {
+    log.answers.as_slice().last() == Some(&Answer::Finish(answer))
 }
 
 #[test]
 fn cuts_give_one_seal(rt: HostRuntime) -> Result<(), Fail> {
-    let heap = rt.alloc();
-    let mut out = [0; 40];
-    let mut tag = [0; 16];
-    seal::<Mirror>(&[0x2a; 16], &HEADER, &MESSAGE, &mut out, &mut tag)?;
+    let (ciphertext, tag) = whole()?;
     for size in 1..42usize {
-        let headers = stretches(heap, &HEADER, size)?;
-        let bodies = stretches(heap, &MESSAGE, size)?;
-        let (log, end) = sealing(heap, headers.as_slice(), bodies.as_slice(), true)?;
-        assert!(rt;
-            log.header.as_slice() == HEADER.as_slice(),
-            "other header taken"
-        );
-        assert!(rt;
-            log.body.as_slice() == MESSAGE.as_slice(),
-            "other body taken"
-        );
-        assert!(rt; log.out.as_slice() == out.as_slice(), "other ciphertext");
-        assert!(rt;
-            matches!(end, End::Sealed { last: _, tag: t } if t == tag),
-            "other tag"
-        );
+        seals_cut(&rt, rt.alloc(), size, &ciphertext, &tag)?;
     }
     Ok(())
 }
 
 #[test]
 fn cuts_open_to_one_message(rt: HostRuntime) -> Result<(), Fail> {
-    let heap = rt.alloc();
-    let mut out = [0; 40];
-    let mut tag = [0; 16];
-    seal::<Mirror>(&[0x2a; 16], &HEADER, &MESSAGE, &mut out, &mut tag)?;
+    let (ciphertext, tag) = whole()?;
     for size in 1..42usize {
-        let headers = stretches(heap, &HEADER, size)?;
-        let bodies = stretches(heap, &out, size)?;
-        let (log, _) = opening(heap, headers.as_slice(), bodies.as_slice(), &tag)?;
-        assert!(rt; log.out.as_slice() == MESSAGE.as_slice(), "other message");
-        assert_eq!(rt;
-            log.answers.as_slice().last().copied(),
-            Some(Answer::Finish(Ok(8)))
-        );
+        opens_cut(&rt, rt.alloc(), size, &ciphertext, &tag)?;
     }
     Ok(())
 }
@@ -116,29 +119,39 @@ fn given(written: usize, held: usize) -> Answer {
     Answer::Body(Ok((written, held)))
 }
 
+fn stretch<'a>(bytes: &'a [u8], room: usize) -> Stretch<'a> {
+    Stretch { bytes, room }
+}
+
 // What body calls answer: a block is given only once a byte follows it.
 #[test]
 fn pairs(rt: HostRuntime) -> Result<(), Fail> {
     let bodies = [
-        Stretch {
-            bytes: &MESSAGE[0..16],
-            room: 64,
-        },
-        Stretch {
-            bytes: &MESSAGE[0..1],
-            room: 64,
-        },
-        Stretch {
-            bytes: &MESSAGE[0..32],
-            room: 64,
-        },
+        stretch(&[7; 16], 64),
+        stretch(&[7; 1], 64),
+        stretch(&[7; 32], 64),
     ];
-    let (log, end) = sealing(rt.alloc(), &[], &bodies, false)?;
+    let course = Course::Seal {
+        bodies: &bodies,
+        finish: false,
+    };
+    let (log, end) = played(rt.alloc(), &[], course)?;
     let answers = [given(0, 16), given(16, 1), given(32, 1)];
-    assert!(rt; log.answers.as_slice() == answers.as_slice());
-    assert_eq!(rt; log.out.len(), 48);
-    assert_eq!(rt; end, End::Unfinished);
+    let case = "body calls";
+    holds(
+        &rt,
+        log.answers.as_slice() == answers.as_slice(),
+        "other answers",
+        &case,
+    );
+    holds(&rt, log.out.len() == 48, "other length", &case);
+    holds(&rt, end == End::Unfinished, "other end", &case);
     Ok(())
+}
+
+// Header calls of 20 bytes, of these, and of one byte.
+fn around<'a>(long: &'a [u8]) -> [Stretch<'a>; 3] {
+    [stretch(&[9; 20], 0), stretch(long, 0), stretch(&[9; 1], 0)]
 }
 
 // Calls that are refused leave the session as it was.
@@ -146,33 +159,17 @@ fn pairs(rt: HostRuntime) -> Result<(), Fail> {
 fn goes_on_after_refusals(rt: HostRuntime) -> Result<(), Fail> {
     let heap = rt.alloc();
     let long = vec![in heap; 0; 65537]?;
-    let mut headers = Vec::new(heap);
-    headers.push(Stretch {
-        bytes: &HEADER[0..20],
-        room: 0,
-    })?;
-    headers.push(Stretch {
-        bytes: long.as_slice(),
-        room: 0,
-    })?;
-    headers.push(Stretch {
-        bytes: &HEADER[20..21],
-        room: 0,
-    })?;
-    let mut bodies = Vec::new(heap);
-    bodies.push(Stretch {
-        bytes: &MESSAGE[0..17],
-        room: 15,
-    })?;
-    bodies.push(Stretch {
-        bytes: &MESSAGE[0..39],
-        room: 32,
-    })?;
-    bodies.push(Stretch {
-        bytes: &MESSAGE[39..40],
-        room: 0,
-    })?;
-    let (log, _) = sealing(heap, headers.as_slice(), bodies.as_slice(), true)?;
+    let headers = around(&long);
+    let bodies = [
+        stretch(&[7; 17], 15),
+        stretch(&[7; 39], 32),
+        stretch(&[7; 1], 0),
+    ];
+    let course = Course::Seal {
+        bodies: &bodies,
+        finish: true,
+    };
+    let (log, _) = played(heap, &headers, course)?;
     let answers = [
         Answer::Header(Ok(())),
         Answer::Header(Err(Placed {
@@ -188,75 +185,98 @@ fn goes_on_after_refusals(rt: HostRuntime) -> Result<(), Fail> {
         given(0, 8),
         Answer::Finish(Ok(8)),
     ];
-    assert!(rt; log.answers.as_slice() == answers.as_slice());
-    let mut out = [0; 40];
-    let mut tag = [0; 16];
-    seal::<Mirror>(&[0x2a; 16], &HEADER, &MESSAGE, &mut out, &mut tag)?;
-    assert!(rt; log.out.as_slice() == out.as_slice());
+    let (ciphertext, _) = whole()?;
+    let case = "calls with refusals";
+    holds(
+        &rt,
+        log.answers.as_slice() == answers.as_slice(),
+        "other answers",
+        &case,
+    );
+    same(&rt, &log.out, &ciphertext, "other ciphertext", &case);
     Ok(())
 }
 
 // A finish refuses no body, a tag of another length, and a false tag, with zeros in its places.
 #[test]
 fn refuses_no_body(rt: HostRuntime) -> Result<(), Fail> {
-    let heap = rt.alloc();
-    let bodies = stretches(heap, &MESSAGE[0..0], 1)?;
-    let (log, end) = sealing(heap, &[], bodies.as_slice(), true)?;
-    assert_eq!(rt;
-        log.answers.as_slice().last().copied(),
-        Some(Answer::Finish(Err(Placed {
-            fault: SessionFault::Empty,
-            place: 0,
-        })))
+    let course = Course::Seal {
+        bodies: &[],
+        finish: true,
+    };
+    let (log, end) = played(rt.alloc(), &[], course)?;
+    let zeros = End::Sealed {
+        last: [0; 16],
+        tag: [0; 16],
+    };
+    let case = "no body";
+    holds(
+        &rt,
+        ends(&log, refused(SessionFault::Empty, 0)),
+        "other finish",
+        &case,
     );
-    assert_eq!(rt;
-        end,
-        End::Sealed {
-            last: [0; 16],
-            tag: [0; 16],
-        }
-    );
+    holds(&rt, end == zeros, "other end", &case);
     Ok(())
 }
 
+const TAGS: [(&'static [u8], SessionFault, &'static str); 2] = [
+    (&[7; 12], SessionFault::Tag, "a short tag"),
+    (&[7; 16], SessionFault::Forged, "a false tag"),
+];
+
+// An opening of forty bytes is refused, and what was given out stays.
 #[test]
-fn refuses_short_tag(rt: HostRuntime) -> Result<(), Fail> {
-    refuses(&rt, rt.alloc(), &MESSAGE[0..12], SessionFault::Tag)
+fn refuses_tags(rt: HostRuntime) -> Result<(), Fail> {
+    for (tag, fault, case) in TAGS {
+        refuses(&rt, rt.alloc(), tag, fault, &case)?;
+    }
+    Ok(())
 }
 
-#[test]
-fn refuses_false_tag(rt: HostRuntime) -> Result<(), Fail> {
-    refuses(&rt, rt.alloc(), &MESSAGE[0..16], SessionFault::Forged)
-}
-
-// An opening of forty bytes is refused with this fault, and what was given out stays.
-fn refuses(rt: &impl Abort, heap: Global, tag: &[u8], fault: SessionFault) -> Result<(), Fail> {
-    let bodies = stretches(heap, &MESSAGE, 40)?;
-    let (log, end) = opening(heap, &[], bodies.as_slice(), tag)?;
-    assert_eq!(rt;
-        log.answers.as_slice().last().copied(),
-        Some(Answer::Finish(Err(Placed { fault, place: 40 })))
-    );
-    assert_eq!(rt; log.out.len(), 32, "what was given out stays");
-    assert_eq!(rt; end, End::Opened { last: [0; 16] });
+fn refuses(
+    rt: &impl Abort,
+    heap: Global,
+    tag: &[u8],
+    fault: SessionFault,
+    case: &impl Display,
+) -> Result<(), Fail> {
+    let bodies = [stretch(&MESSAGE, 64)];
+    let course = Course::Open {
+        bodies: &bodies,
+        tag: Some(tag),
+    };
+    let (log, end) = played(heap, &[], course)?;
+    holds(rt, ends(&log, refused(fault, 40)), "other finish", case);
+    holds(rt, log.out.len() == 32, "what was given out is gone", case);
+    holds(rt, end == End::Opened { last: [0; 16] }, "other end", case);
     Ok(())
 }
 
 #[test]
 fn one_stretch(rt: HostRuntime) -> Result<(), Fail> {
     let place = placed()?;
-    let mut whole = [0; 40];
-    let mut tag = [0; 16];
-    seal::<Mirror>(&[0x2a; 16], &HEADER, &MESSAGE, &mut whole, &mut tag)?;
+    let (ciphertext, tag) = whole()?;
     let mut out = [0; 40];
     let mut last = [0; 16];
     let mut other = [0; 16];
-    assert_eq!(rt;
-        seal_once::<Mirror>(&place, &HEADER, &MESSAGE, &mut out, &mut last, &mut other)?,
-        (32, 8)
+    let lens = seal_once::<Mirror>(&place, &HEADER, &MESSAGE, &mut out, &mut last, &mut other)?;
+    let case = "one stretch";
+    holds(&rt, lens == (32, 8), "other lengths", &case);
+    same(
+        &rt,
+        &out[0..32],
+        &ciphertext[0..32],
+        "other ciphertext",
+        &case,
     );
-    assert!(rt; &out[0..32] == &whole[0..32]);
-    assert!(rt; &last[0..8] == &whole[32..40]);
-    assert_eq!(rt; other, tag);
+    same(
+        &rt,
+        &last[0..8],
+        &ciphertext[32..40],
+        "other last bytes",
+        &case,
+    );
+    same(&rt, &other, &tag, "other tag", &case);
     Ok(())
 }

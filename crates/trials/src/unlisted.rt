@@ -1,8 +1,9 @@
 //! Numbers of suites that are not listed are refused before every other check, and nothing is
 //! altered.
+use crate::samples::{holds, refused, same};
 use anyhow::anyhow;
 use delivery::message::{open, seal};
-use fault::kinds::{KeyFault, Placed, SessionFault};
+use fault::kinds::{KeyFault, SessionFault};
 use std::process::Abort;
 use std::test::Fail;
 
@@ -10,61 +11,34 @@ const KEY: [u8; 16] = [0x2a; 16];
 
 const TAG: [u8; 16] = [0x55; 16];
 
-fn refused(suite: u8) -> Result<usize, Placed<SessionFault>> {
-    Err(Placed {
-        fault: SessionFault::Key(KeyFault::Suite),
-        place: usize::from(suite),
-    })
-}
+// A key, a body and a tag, and what they are.
+const PARTS: [(&'static [u8], &'static [u8], &'static [u8], &'static str); 5] = [
+    (&KEY, &[1, 2, 3, 4], &TAG, "whole parts"),
+    (&[0x2a; 3], &[1, 2, 3, 4], &TAG, "a short key"),
+    (&KEY, &[], &TAG, "no body"),
+    (&KEY, &[1, 2, 3, 4, 5], &TAG, "little room"),
+    (&KEY, &[1, 2, 3, 4], &[0x55; 12], "a short tag"),
+];
 
 // Both calls under this number, with this key, body and tag, and room for four bytes.
-fn both_refuse(
-    rt: &impl Abort,
-    what: &str,
-    suite: u8,
-    key: &[u8],
-    body: &[u8],
-    tag: &[u8],
-) -> Result<(), Fail> {
+fn both_refuse(rt: &impl Abort, suite: u8, key: &[u8], body: &[u8], tag: &[u8], what: &str) {
+    let refusal = refused(SessionFault::Key(KeyFault::Suite), usize::from(suite));
     let mut out = [0xee; 4];
     let mut place = TAG;
-    assert_eq!(rt;
-        seal(suite, key, &[], body, &mut out, &mut place),
-        refused(suite),
-        "{what}"
-    );
-    assert_eq!(rt; place, TAG, "a refusal wrote the tag, {what}");
-    assert_eq!(rt;
-        open(suite, key, &[], body, tag, &mut out),
-        refused(suite),
-        "{what}"
-    );
-    assert_eq!(rt; out, [0xee; 4], "a refusal wrote, {what}");
-    Ok(())
+    let answer = seal(suite, key, &[], body, &mut out, &mut place);
+    holds(rt, answer == refusal, what, &suite);
+    same(rt, &place, &TAG, "a refusal wrote the tag", &suite);
+    let answer = open(suite, key, &[], body, tag, &mut out);
+    holds(rt, answer == refusal, what, &suite);
+    same(rt, &out, &[0xee; 4], "a refusal wrote", &suite);
 }
 
 #[test]
 fn unlisted_numbers(rt: HostRuntime) -> Result<(), Fail> {
     for suite in [0, 5, 6, 9, 255] {
-        both_refuse(&rt, "with whole parts", suite, &KEY, &[1, 2, 3, 4], &TAG)?;
-        both_refuse(
-            &rt,
-            "with a short key",
-            suite,
-            &KEY[0..3],
-            &[1, 2, 3, 4],
-            &TAG,
-        )?;
-        both_refuse(&rt, "with no body", suite, &KEY, &[], &TAG)?;
-        both_refuse(&rt, "with little room", suite, &KEY, &[1, 2, 3, 4, 5], &TAG)?;
-        both_refuse(
-            &rt,
-            "with a short tag",
-            suite,
-            &KEY,
-            &[1, 2, 3, 4],
-            &TAG[0..12],
-        )?;
+        for (key, body, tag, what) in PARTS {
+            both_refuse(&rt, suite, key, body, tag, what);
+        }
     }
     Ok(())
 }
