@@ -35,8 +35,8 @@ const ACCEPTED: [(u8, &[u8]); 5] = [
     (MIRROR, ENTRY),
 ];
 
-// An entry cut short, one with an unknown bit, one without a count, one with the count 0, and a good
-// one with a byte behind it.
+// An entry cut short, one with an unknown bit, one without a count, one with the count 0, and a
+// good one with a byte behind it.
 const BROKEN: [&[u8]; 5] = [
     b"\x00",
     b"\x00\x45DOORSH01\x00\x02",
