@@ -133,32 +133,10 @@ const PUBLISHED: [Published; 4] = [
 ];
 
 #[test]
-fn keys(rt: HostRuntime) {
-    for (i, v) in PUBLISHED.iter().enumerate() {
-        let keys = Keys::new::<Aes128>(v.delivered);
-        same(&rt, &keys.cipher, &v.cipher, "other key of the cipher", &i);
-        same(&rt, &keys.mask, &v.mask, "other mask", &i);
-        same(&rt, &keys.chain, &v.chain, "other key of the chain", &i);
-    }
-}
-
-#[test]
-fn digests(rt: HostRuntime) {
-    for (i, v) in PUBLISHED.iter().enumerate() {
-        let mut digest = OlderSuite::<FourRounds>::set_up(v.delivered).digest;
-        digest.absorb(v.header);
-        same(&rt, &digest.finish(), &v.tau, "other digest", &i);
-        let mut cut = OlderSuite::<Aes128>::set_up(v.delivered).digest;
-        for b in v.header {
-            cut.absorb(&[*b]);
-        }
-        same(&rt, &cut.finish(), &v.tau, "other digest byte by byte", &i);
-    }
-}
-
-#[test]
 fn four_rounds(rt: HostRuntime) -> Result<(), Fail> {
     for (i, v) in PUBLISHED.iter().enumerate() {
+        keys(&rt, v, i);
+        digests(&rt, v, i);
         matches::<OlderSuite<FourRounds>>(&rt, rt.alloc(), v, &v.four, i)?;
     }
     Ok(())
@@ -170,6 +148,37 @@ fn ten_rounds(rt: HostRuntime) -> Result<(), Fail> {
         matches::<OlderSuite<Aes128>>(&rt, rt.alloc(), v, &v.ten, i)?;
     }
     Ok(())
+}
+
+// The keys and the digest, which are the same under either suite.
+fn keys(rt: &impl Abort, v: &Published, case: usize) {
+    let keys = Keys::new::<Aes128>(v.delivered);
+    same(
+        rt,
+        &keys.cipher,
+        &v.cipher,
+        "other key of the cipher",
+        &case,
+    );
+    same(rt, &keys.mask, &v.mask, "other mask", &case);
+    same(rt, &keys.chain, &v.chain, "other key of the chain", &case);
+}
+
+fn digests(rt: &impl Abort, v: &Published, case: usize) {
+    let mut digest = OlderSuite::<FourRounds>::set_up(v.delivered).digest;
+    digest.absorb(v.header);
+    same(rt, &digest.finish(), &v.tau, "other digest", &case);
+    let mut cut = OlderSuite::<Aes128>::set_up(v.delivered).digest;
+    for b in v.header {
+        cut.absorb(&[*b]);
+    }
+    same(
+        rt,
+        &cut.finish(),
+        &v.tau,
+        "other digest byte by byte",
+        &case,
+    );
 }
 
 // A message seals so, and opens again; one that is empty is no session's, so its tag is made from

@@ -34,16 +34,21 @@ const SEAL_REFUSALS: [(Lens, SessionFault, usize); 9] = [
     ([16, 0, 1048577, 0], SessionFault::Body, 0),
 ];
 
-// What opening refuses, with the length of the tag too.
-const OPEN_REFUSALS: [(Lens, usize, SessionFault, usize); 8] = [
-    ([15, 0, 1, 1], 16, KEY_LENGTH, 15),
-    ([16, 65537, 1, 1], 16, SessionFault::Header, 0),
-    ([16, 0, 1048577, 1048577], 16, SessionFault::Body, 0),
-    ([16, 0, 17, 16], 16, SessionFault::Room, 0),
-    ([16, 0, 0, 4], 12, SessionFault::Empty, 0),
-    ([16, 0, 1, 4], 12, SessionFault::Tag, 0),
-    ([16, 0, 1, 4], 17, SessionFault::Tag, 0),
-    ([16, 0, 17, 20], 16, SessionFault::Forged, 17),
+// What opening refuses, with the tag too.
+const OPEN_REFUSALS: [(Lens, &'static [u8], SessionFault, usize); 8] = [
+    ([15, 0, 1, 1], &[0x55; 16], KEY_LENGTH, 15),
+    ([16, 65537, 1, 1], &[0x55; 16], SessionFault::Header, 0),
+    (
+        [16, 0, 1048577, 1048577],
+        &[0x55; 16],
+        SessionFault::Body,
+        0,
+    ),
+    ([16, 0, 17, 16], &[0x55; 16], SessionFault::Room, 0),
+    ([16, 0, 0, 4], &[0x55; 12], SessionFault::Empty, 0),
+    ([16, 0, 1, 4], &[0x55; 12], SessionFault::Tag, 0),
+    ([16, 0, 1, 4], &[0x55; 17], SessionFault::Tag, 0),
+    ([16, 0, 17, 20], &[0x55; 16], SessionFault::Forged, 17),
 ];
 
 // What a call answers for these lengths. A refusal alters nothing, but that a forgery leaves zeros
@@ -52,7 +57,7 @@ fn answers(
     rt: &impl Abort,
     heap: Global,
     [key, header, body, room]: Lens,
-    tag: Option<usize>,
+    tag: Option<&[u8]>,
     expected: Result<usize, Placed<SessionFault>>,
     case: usize,
 ) -> Result<(), Fail> {
@@ -62,10 +67,7 @@ fn answers(
     let mut out = vec![in heap; 0xee; room]?;
     let answer = match tag {
         None => sealing(rt, &key, &header, &body, &mut out, case),
-        Some(len) => {
-            let tag = vec![in heap; 0x55; len]?;
-            open::<Mirror>(&key, &header, &body, &tag, &mut out)
-        }
+        Some(tag) => open::<Mirror>(&key, &header, &body, tag, &mut out),
     };
     holds(rt, answer == expected, "other answer", &case);
     match expected {

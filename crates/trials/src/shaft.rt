@@ -1,7 +1,7 @@
 //! Suite 1, told by its number: seals by another program, both ways, and every byte of one seal
 //! damaged.
 use crate::samples::{holds, kept, refused, same, wrote};
-use crate::vectors::VECTORS;
+use crate::vectors::{VECTORS, Vector};
 use delivery::message::{open, seal};
 use fault::kinds::SessionFault;
 use std::process::Abort;
@@ -14,24 +14,27 @@ const HEADER: [u8; 21] = *b"lift 7, parts sheet 1";
 const MESSAGE: [u8; 37] = *b"two door rollers, one guide shoe, oil";
 
 #[test]
-fn seals(rt: HostRuntime) -> Result<(), Fail> {
+fn vectors(rt: HostRuntime) -> Result<(), Fail> {
     for (i, v) in VECTORS.iter().enumerate() {
-        let mut out = [0xee; 50];
-        let mut tag = [0xee; 16];
-        let n = seal(1, &v.key, v.header, v.message, &mut out, &mut tag)?;
-        wrote(&rt, n, &out, v.ciphertext, &i);
-        same(&rt, &tag, &v.tag, "other tag", &i);
+        seals(&rt, v, i)?;
+        opens(&rt, v, i)?;
     }
     Ok(())
 }
 
-#[test]
-fn opens(rt: HostRuntime) -> Result<(), Fail> {
-    for (i, v) in VECTORS.iter().enumerate() {
-        let mut out = [0xee; 50];
-        let n = open(1, &v.key, v.header, v.ciphertext, &v.tag, &mut out)?;
-        wrote(&rt, n, &out, v.message, &i);
-    }
+fn seals(rt: &impl Abort, v: &Vector, case: usize) -> Result<(), Fail> {
+    let mut out = [0xee; 50];
+    let mut tag = [0xee; 16];
+    let n = seal(1, &v.key, v.header, v.message, &mut out, &mut tag)?;
+    wrote(rt, n, &out, v.ciphertext, &case);
+    same(rt, &tag, &v.tag, "other tag", &case);
+    Ok(())
+}
+
+fn opens(rt: &impl Abort, v: &Vector, case: usize) -> Result<(), Fail> {
+    let mut out = [0xee; 50];
+    let n = open(1, &v.key, v.header, v.ciphertext, &v.tag, &mut out)?;
+    wrote(rt, n, &out, v.message, &case);
     Ok(())
 }
 
