@@ -2,10 +2,9 @@
 //! suites: every key, digest, ciphertext and tag is executed and matched, through the suites with
 //! the older header digest. They are what holds four-round AES to a source from outside.
 use crate::older::OlderSuite;
-use crate::samples::{holds, same, stretches, wrote};
+use crate::samples::{holds, played, same, stretches, wrote};
 use block::xor;
-use script::{Answer, Course, End, play};
-use session::KeyPlace;
+use script::{Answer, Course, End};
 use session::whole::{open, seal};
 use std::alloc::Global;
 use std::process::Abort;
@@ -230,15 +229,13 @@ fn seals_cut<S: Suite>(
     sealed: &Sealed,
     case: usize,
 ) -> Result<(), Fail> {
-    let mut place = KeyPlace::new();
-    place.fill(&v.delivered)?;
     let headers = stretches(heap, v.header, 7)?;
     let bodies = stretches(heap, v.message, 7)?;
     let course = Course::Seal {
         bodies: &bodies,
         finish: true,
     };
-    let (log, end) = play::<S>(heap, &place, &headers, course)?;
+    let (log, end) = played::<S>(heap, &v.delivered, &headers, course)?;
     let out = log.out.as_slice();
     same(
         rt,
@@ -259,15 +256,13 @@ fn opens_cut<S: Suite>(
     sealed: &Sealed,
     case: usize,
 ) -> Result<(), Fail> {
-    let mut place = KeyPlace::new();
-    place.fill(&v.delivered)?;
     let headers = stretches(heap, v.header, 7)?;
     let bodies = stretches(heap, sealed.ciphertext, 7)?;
     let course = Course::Open {
         bodies: &bodies,
         tag: Some(&sealed.tag),
     };
-    let (log, end) = play::<S>(heap, &place, &headers, course)?;
+    let (log, end) = played::<S>(heap, &v.delivered, &headers, course)?;
     let out = log.out.as_slice();
     same(rt, out, v.message, "other message in stretches", &case);
     let rest = match v.message.len() % 16 {

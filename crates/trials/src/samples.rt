@@ -1,12 +1,15 @@
-//! What the tests share: what holds of a case, refusals, bytes as a buffer was filled, and messages
+//! What the tests share: what holds of a case, refusals, bytes as a buffer was filled, and sessions
 //! in stretches.
 ghost use Rattle.std.specs.Prelude.{◌≤◌};
 
 use fault::kinds::{Placed, SessionFault};
-use script::Stretch;
+use script::{Course, End, Played, Stretch, play};
+use session::KeyPlace;
 use std::alloc::{AllocError, Global};
 use std::fmt::Display;
 use std::process::Abort;
+use std::test::Fail;
+use suite::Suite;
 
 // What holds of a case. An assertion with a message is proved anew wherever it is written, and a
 // call of this one is cheaper.
@@ -61,4 +64,21 @@ pub(crate) fn stretches<'a>(
         })?;
     }
     Ok(all)
+}
+
+pub(crate) fn placed(key: &[u8; 16]) -> Result<KeyPlace, Fail> {
+    let mut place = KeyPlace::new();
+    place.fill(key)?;
+    Ok(place)
+}
+
+// Plays a session under this key.
+pub(crate) fn played<S: Suite>(
+    heap: Global,
+    key: &[u8; 16],
+    headers: &[Stretch<'_>],
+    course: Course<'_>,
+) -> Result<(Played, End), Fail> {
+    let place = placed(key)?;
+    Ok(play::<S>(heap, &place, headers, course)?)
 }

@@ -3,10 +3,9 @@
 ghost use Rattle.std.specs.Prelude.{◌≤◌};
 
 use crate::caller::seal_once;
-use crate::samples::{holds, refused, same, stretches};
+use crate::samples::{holds, placed, played, refused, same, stretches};
 use fault::kinds::{Placed, SessionFault};
-use script::{Answer, Course, End, Played, Stretch, play};
-use session::KeyPlace;
+use script::{Answer, Course, End, Played, Stretch};
 use session::whole::seal;
 use std::alloc::Global;
 use std::fmt::Display;
@@ -28,22 +27,6 @@ fn whole() -> Result<([u8; 40], [u8; 16]), Fail> {
     Ok((out, tag))
 }
 
-fn placed() -> Result<KeyPlace, Fail> {
-    let mut place = KeyPlace::new();
-    place.fill(&KEY)?;
-    Ok(place)
-}
-
-// Plays a session under the mirror suite.
-fn played(
-    heap: Global,
-    headers: &[Stretch<'_>],
-    course: Course<'_>,
-) -> Result<(Played, End), Fail> {
-    let place = placed()?;
-    Ok(play::<Mirror>(heap, &place, headers, course)?)
-}
-
 // The message sealed in stretches of `size`.
 fn seals_cut(
     rt: &impl Abort,
@@ -60,7 +43,7 @@ fn seals_cut(
         bodies: &bodies,
         finish: true,
     };
-    let (log, end) = played(heap, &headers, course)?;
+    let (log, end) = played::<Mirror>(heap, &KEY, &headers, course)?;
     same(rt, &log.header, &HEADER, "other header taken", &size);
     same(rt, &log.body, &MESSAGE, "other body taken", &size);
     same(rt, &log.out, ciphertext, "other ciphertext", &size);
@@ -85,7 +68,7 @@ fn opens_cut(
         bodies: &bodies,
         tag: Some(tag),
     };
-    let (log, _) = played(heap, &headers, course)?;
+    let (log, _) = played::<Mirror>(heap, &KEY, &headers, course)?;
     same(rt, &log.out, &MESSAGE, "other message", &size);
     holds(rt, ends(&log, Ok(8)), "other finish", &size);
     Ok(())
@@ -135,7 +118,7 @@ fn pairs(rt: HostRuntime) -> Result<(), Fail> {
         bodies: &bodies,
         finish: false,
     };
-    let (log, end) = played(rt.alloc(), &[], course)?;
+    let (log, end) = played::<Mirror>(rt.alloc(), &KEY, &[], course)?;
     let answers = [given(0, 16), given(16, 1), given(32, 1)];
     let case = "body calls";
     holds(
@@ -169,7 +152,7 @@ fn goes_on_after_refusals(rt: HostRuntime) -> Result<(), Fail> {
         bodies: &bodies,
         finish: true,
     };
-    let (log, _) = played(heap, &headers, course)?;
+    let (log, _) = played::<Mirror>(heap, &KEY, &headers, course)?;
     let answers = [
         Answer::Header(Ok(())),
         Answer::Header(Err(Placed {
@@ -204,7 +187,7 @@ fn refuses_no_body(rt: HostRuntime) -> Result<(), Fail> {
         bodies: &[],
         finish: true,
     };
-    let (log, end) = played(rt.alloc(), &[], course)?;
+    let (log, end) = played::<Mirror>(rt.alloc(), &KEY, &[], course)?;
     let zeros = End::Sealed {
         last: [0; 16],
         tag: [0; 16],
@@ -246,7 +229,7 @@ fn refuses(
         bodies: &bodies,
         tag: Some(tag),
     };
-    let (log, end) = played(heap, &[], course)?;
+    let (log, end) = played::<Mirror>(heap, &KEY, &[], course)?;
     holds(rt, ends(&log, refused(fault, 40)), "other finish", case);
     holds(rt, log.out.len() == 32, "what was given out is gone", case);
     holds(rt, end == End::Opened { last: [0; 16] }, "other end", case);
@@ -255,7 +238,7 @@ fn refuses(
 
 #[test]
 fn one_stretch(rt: HostRuntime) -> Result<(), Fail> {
-    let place = placed()?;
+    let place = placed(&KEY)?;
     let (ciphertext, tag) = whole()?;
     let mut out = [0; 40];
     let mut last = [0; 16];
