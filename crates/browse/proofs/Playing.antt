@@ -8,7 +8,7 @@ use Rattle.fault.specs.declared.kinds.Placed.{Placed}
 use Rattle.fault.specs.Refusals.{HandedOn, sheet_faults, console_faults}
 use Rattle.sheet.specs.Entries.{Item}
 use Rattle.delivery.proofs.Opening.{SheetOf}
-use Rattle.wire.specs.declared.parse.Delivery.{Delivery}
+use Rattle.wire.specs.declared.parsing.Delivery.{Delivery}
 use Rattle.streams.specs.Streams.{ReadsUpTo, WritesFront, Wrote}
 use Rattle.wire.specs.Wire.{Parts, parts_of, Parsed, ciphertext_limit, input_limit}
 use Rattle.reading.specs.declared.script.Call.{Call}

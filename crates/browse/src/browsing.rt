@@ -7,13 +7,13 @@ ghost use Rattle.browse.specs.Shown.{refusal_text, replies_text};
 ghost use Rattle.browse.specs.Browsing.{Browsed, Ran};
 
 use crate::shown::show;
-use fault::kinds::{ConsoleFault, Placed};
+use fault::{ConsoleFault, Placed};
 use reading::{Call, play};
 use std::alloc::Global;
 use std::io;
 use std::io::{Read, Write};
 use streams::{fill, put};
-use wire::parse::{CIPHERTEXT_LIMIT, Delivery, INPUT_LIMIT, parse};
+use wire::{CIPHERTEXT_LIMIT, Delivery, INPUT_LIMIT, parse};
 
 /// Reads one delivery, opens its sheet, and writes what a new reader answers to each of the calls;
 /// or the refusal. No more than `INPUT_LIMIT` bytes are read, and nothing is written before all of

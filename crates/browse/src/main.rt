@@ -13,7 +13,7 @@ use browsing::run;
 use reading::Call;
 use std::env;
 use std::io::IsTerminal;
-use wire::parse::CIPHERTEXT_LIMIT;
+use wire::CIPHERTEXT_LIMIT;
 use words::{WORDS, ask_of};
 
 const HELP: &'static str =

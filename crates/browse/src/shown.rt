@@ -5,10 +5,10 @@ ghost use Rattle.sheet.specs.Entries.{Good, item_of};
 ghost use Rattle.listing.specs.Lines.{line_of};
 ghost use Rattle.browse.specs.Shown.{a_line, field_text, reply_text};
 
-use fault::shown::Fault;
-use listing::line::{LINE_LIMIT, line};
+use fault::Fault;
+use listing::{LINE_LIMIT, line};
 use reading::Reply;
-use sheet::entry::{Entry, Field};
+use sheet::{Entry, Field};
 use std::io;
 use std::io::{Error, ErrorKind, Write};
 use streams::put;

@@ -3,7 +3,7 @@ use crate::browsing::run;
 use crate::words::ask_of;
 use reading::Call;
 use std::alloc::Global;
-use wire::parse::CIPHERTEXT_LIMIT;
+use wire::CIPHERTEXT_LIMIT;
 
 // One entry: code DOORSH01 and count 2.
 const DELIVERY: [u8; 51] = [

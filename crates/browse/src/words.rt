@@ -4,7 +4,7 @@ ghost use Rattle.reading.specs.declared.script.Ask.{Ask};
 ghost use Rattle.browse.specs.Words.{word_of};
 
 use reading::Ask;
-use sheet::entry::Kind;
+use sheet::Kind;
 
 /// The words that are calls.
 pub(crate) const WORDS: &'static str = "next, code, parent, count, landing, months, drawing";

@@ -1,8 +1,7 @@
 //! A run over bytes in memory, and what it then wrote.
-use delivery::message::seal;
+use delivery::seal;
 use report::run;
-use sheet::entry::Entry;
-use sheet::writing::write;
+use sheet::{Entry, write};
 use std::alloc::Global;
 use std::process::Abort;
 use std::test::Fail;

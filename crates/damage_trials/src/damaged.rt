@@ -1,6 +1,6 @@
 //! One bit of the header, of the ciphertext or of the tag turned, and what an opening then does.
-use delivery::message::{open, seal};
-use fault::kinds::{Placed, SessionFault};
+use delivery::{open, seal};
+use fault::{Placed, SessionFault};
 use std::alloc::Global;
 use std::fmt::Display;
 use std::process::Abort;

@@ -2,5 +2,8 @@
 //! (`sheets`), which has a form for any suite too.
 #![tactic(auto)]
 
-pub mod message;
-pub mod sheets;
+mod message;
+mod sheets;
+
+pub use message::{open, seal};
+pub use sheets::{open_sheet, open_sheet_as, told};

@@ -5,10 +5,9 @@ ghost use Rattle.fault.specs.Refusals.{Refuses, session_faults};
 ghost use Rattle.session.specs.Calls.{OpenCall, SealCall};
 ghost use Rattle.delivery.specs.Told.{not_listed, suite_of};
 
-use fault::kinds::{Placed, SessionFault};
+use fault::{Placed, SessionFault};
 use suite::Suite;
-use suites::at_listed;
-use suites::listed::Listed;
+use suites::{Listed, at_listed};
 
 /// Seals as `session::seal` does, under the suite with the number `suite`.
 ///
@@ -69,7 +68,7 @@ fn sealed<S: Suite>(
     ensures { SealCall S.Suite.under
         key.now header.now message.now out.old tag.old out.new tag.new result }
 {
-    session::whole::seal::<S>(key, header, message, out, tag)
+    session::seal::<S>(key, header, message, out, tag)
 }
 
 fn opened<S: Suite>(
@@ -82,5 +81,5 @@ fn opened<S: Suite>(
     ensures { OpenCall S.Suite.under
         key.now header.now ciphertext.now tag.now out.old out.new result }
 {
-    session::whole::open::<S>(key, header, ciphertext, tag, out)
+    session::open::<S>(key, header, ciphertext, tag, out)
 }

@@ -11,12 +11,11 @@ ghost use Rattle.delivery.specs.Told.{not_listed, suite_of};
 ghost use Rattle.delivery.specs.Sheets.{SheetCall, SheetOpened, SheetRefused, SheetSeals};
 ghost use Rattle.delivery.specs.Sheets.{ToldSuite, lifted};
 
-use fault::kinds::{Placed, SessionFault, SheetFault};
+use fault::{Placed, SessionFault, SheetFault};
 use sheet::whole::test;
 use suite::Suite;
-use suites::at_listed;
-use suites::listed::Listed;
-use wire::parse::Delivery;
+use suites::{Listed, at_listed};
+use wire::Delivery;
 
 /// The suite with a number.
 ///
@@ -80,7 +79,7 @@ pub fn open_sheet_as<S: Suite>(
         header.now ciphertext.now tag.now out.old out.new) }
     ensures rest { drop (length ciphertext.now) out.new ≡ drop (length ciphertext.now) out.old }
 {
-    let len = session::whole::open::<S>(key, header, ciphertext, tag, out)?;
+    let len = session::open::<S>(key, header, ciphertext, tag, out)?;
     match test(&out[0..len]) {
         Ok(count) => Ok(count),
         Err(fault) => {

@@ -8,8 +8,14 @@
 //! is refused without the proof.
 #![tactic(auto)]
 
-pub mod chained;
-pub mod doubling;
-pub mod filled;
-pub mod filling;
-pub mod masked;
+mod chained;
+mod doubling;
+mod filled;
+mod filling;
+mod masked;
+
+pub use chained::Chained;
+pub use doubling::double;
+pub use filled::{BlockDigest, Filled};
+pub use filling::{AlwaysPadded, Filling, WholeStays};
+pub use masked::Masked;

@@ -4,5 +4,8 @@
 //! A fault of a lower layer passes through a higher one unaltered, inside the case that carries it.
 #![tactic(auto)]
 
-pub mod kinds;
-pub mod shown;
+mod kinds;
+mod shown;
+
+pub use kinds::{ConsoleFault, KeyFault, Layer, Placed, SessionFault, SheetFault};
+pub use shown::Fault;

@@ -5,7 +5,7 @@ use Rattle.std.specs.Option.{option_map}
 use Rattle.std.specs.Fmt.{signed_decimal}
 use Rattle.fault.specs.declared.kinds.SheetFault.{SheetFault}
 use Rattle.fault.specs.declared.kinds.Placed.{Placed}
-use Rattle.listing.specs.declared.line.TheConstants.{LINE_LIMIT}
+use Rattle.listing.specs.declared.lines.TheConstants.{LINE_LIMIT}
 use Rattle.sheet.specs.Entries.{Item, Good, Held, text}
 use Rattle.sheet.specs.Calls.{WroteAs}
 

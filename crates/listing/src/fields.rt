@@ -3,7 +3,7 @@ ghost use Rattle.std.specs.Prelude.{◌≡◌, ℕ, List, [], ◌∷◌, ◌++�
 ghost use Rattle.std.specs.Fmt.{signed_decimal};
 ghost use Rattle.listing.specs.Lines.{shown};
 
-use crate::line::LINE_LIMIT;
+use crate::lines::LINE_LIMIT;
 use buffer::Buffer;
 
 // Room for the line of any good entry.

@@ -3,7 +3,7 @@ use script::{Answer, Course, End, Played, Stretch, play};
 use session::KeyPlace;
 use std::alloc::{AllocError, Global};
 use std::test::Fail;
-use suites::shaft::Shaft;
+use suites::Shaft;
 
 const HEADER: usize = 65536;
 

@@ -1,11 +1,11 @@
 //! A short session, sealed and opened again. Where memory runs out, `play` says so: an answer that
 //! was wrong in another way would fail the test. `tools/each_alloc.sh` makes each allocation fail.
-use fault::kinds::{Placed, SessionFault};
+use fault::{Placed, SessionFault};
 use script::{Answer, Course, Played, Stretch, play};
 use session::{KeyPlace, seal};
 use std::alloc::{AllocError, Global};
 use std::test::Fail;
-use suites::mirror::Mirror;
+use suites::Mirror;
 
 const HEADER: [u8; 21] = [0x11; 21];
 

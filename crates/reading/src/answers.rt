@@ -5,7 +5,7 @@ ghost use Rattle.reading.specs.Replies.{Answered, asks_of, replies_of};
 ghost use Rattle.reading.specs.Readers.{Replied};
 
 use crate::script::{Ask, Call, Reply};
-use sheet::reader::Reader;
+use sheet::Reader;
 
 // One call on the reader.
 fn reply<'a>(reader: &mut Reader<'a>, ask: Ask) -> Reply<'a>

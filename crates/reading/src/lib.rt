@@ -8,7 +8,7 @@
 
 mod answers;
 mod opening;
-pub mod script;
+mod script;
 
 pub use opening::{play, play_as};
 pub use script::{Ask, Call, Played, Reply};

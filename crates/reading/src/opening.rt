@@ -13,17 +13,17 @@ ghost use Rattle.reading.specs.Deliveries.{Holds, PlayedCall};
 
 use crate::answers::answer;
 use crate::script::{Call, Played};
-use delivery::sheets::{open_sheet_as, told};
+use delivery::{open_sheet_as, told};
 use suite::Suite;
 use suites::at_listed;
-use wire::parse::Delivery;
+use wire::Delivery;
 
 /// Opens the sheet of a delivery into the front of `out`, and answers each of the calls in its
 /// place, on a new reader over the sheet.
 ///
 /// # Errors
 ///
-/// `outcome` has the refusals of `delivery::sheets::open_sheet`; the calls are then as they were.
+/// `outcome` has the refusals of `delivery::open_sheet`; the calls are then as they were.
 pub fn play<'a>(d: Delivery<'_>, out: &'a mut [u8], calls: &mut [Call<'a>]) -> Played<'a>
     ensures unlisted { let p = parts_of d.entry in IfNone (suite_of p.suite)
         (Refuses sheet_faults (lifted (not_listed p.suite)) result.outcome
@@ -52,7 +52,7 @@ pub fn play<'a>(d: Delivery<'_>, out: &'a mut [u8], calls: &mut [Call<'a>]) -> P
 ///
 /// # Errors
 ///
-/// `outcome` has the refusals of `delivery::sheets::open_sheet_as`; the calls are then as they
+/// `outcome` has the refusals of `delivery::open_sheet_as`; the calls are then as they
 /// were.
 pub fn play_as<'a, S: Suite>(
     key: &[u8],

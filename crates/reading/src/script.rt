@@ -1,6 +1,6 @@
 //! The calls on a reader with their replies, and what opening a sheet and answering them comes to.
-use fault::kinds::{Placed, SheetFault};
-use sheet::entry::{Entry, Field, Kind};
+use fault::{Placed, SheetFault};
+use sheet::{Entry, Field, Kind};
 
 /// A call on a reader.
 #[derive(Clone, Copy)]

@@ -13,14 +13,13 @@ use crate::lines::{Piece, Unread};
 use crate::report::Outcome;
 use crate::written::{Body, Script};
 use script::{Course, Stretch, play};
-use session::keys::KeyPlace;
+use session::KeyPlace;
 use std::alloc::{AllocError, Global};
 use std::io::{Read, Write};
 use std::str::from_utf8;
 use streams::put;
 use suite::Suite;
-use suites::at_listed;
-use suites::listed::Listed;
+use suites::{Listed, at_listed};
 
 /// Reads the lines of a session, plays it, and writes what each call answered; or the number of the
 /// first line that breaks a rule, and the rule. Nothing is written before the whole is played.

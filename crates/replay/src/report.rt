@@ -3,7 +3,7 @@ ghost use Rattle.std.specs.Prelude.{[], Some};
 ghost use Rattle.replay.specs.Texts as texts;
 
 use crate::lines::Rule;
-use fault::kinds::{KeyFault, Placed};
+use fault::{KeyFault, Placed};
 use hexits::Hex;
 use script::{Answer, End, Played};
 use std::fmt;

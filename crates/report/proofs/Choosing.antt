@@ -16,7 +16,7 @@ use Rattle.suites.specs.declared.listed.Listed.{Listed}
 use Rattle.suites.specs.Listed.{functions_of, listed}
 use Rattle.suites.proofs.Lawful.{listed_lawful}
 use Rattle.sheet.specs.Calls.{Broken}
-use Rattle.sheet.proofs.Fields.{Octets, octets_left, octets_right}
+use Rattle.sheet.proofs.FieldBytes.{Octets, octets_left, octets_right}
 use Rattle.sheet.proofs.Decoding.{broken}
 use Rattle.delivery.specs.Told.{suite_of}
 use Rattle.wire.specs.Wire.{Parts, Limits, wire}

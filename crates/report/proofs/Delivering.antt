@@ -14,7 +14,7 @@ use Rattle.sheet.specs.Entries.{Item, AllGood, sheet_of}
 use Rattle.delivery.specs.Told.{suite_of, not_listed}
 use Rattle.delivery.specs.Sheets.{SheetSeals, SheetCall, lifted}
 use Rattle.delivery.proofs.Opening.{SheetUnder, SheetOf, counted, sheet_good}
-use Rattle.wire.specs.declared.parse.Delivery.{Delivery}
+use Rattle.wire.specs.declared.parsing.Delivery.{Delivery}
 use Rattle.wire.specs.Wire.{Parts, Limits, parts_of, Parsed, ciphertext_limit}
 use Rattle.report.specs.Report.{Delivers, DeliversOnly, Refused, unlisted, no_body, no_seal, no_sheet, no_delivery, delivery, Judged, raised, within, empty}
 

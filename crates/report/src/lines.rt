@@ -5,9 +5,8 @@ ghost use Rattle.streams.specs.Streams.{Wrote};
 ghost use Rattle.listing.specs.Lines.{line_of};
 ghost use Rattle.report.specs.Lists.{list_of};
 
-use listing::line::{LINE_LIMIT, line};
-use sheet::entry::Entry;
-use sheet::reader::Reader;
+use listing::{LINE_LIMIT, line};
+use sheet::{Entry, Reader};
 use std::io;
 use std::io::{Error, ErrorKind, Write};
 use streams::put;

@@ -6,12 +6,12 @@ ghost use Rattle.report.specs.Runs.{Ran};
 
 use crate::lines::write_lines;
 use crate::refusals::line_of;
-use delivery::sheets::open_sheet;
-use fault::kinds::{ConsoleFault, Placed};
+use delivery::open_sheet;
+use fault::{ConsoleFault, Placed};
 use std::io;
 use std::io::{Read, Write};
 use streams::{fill, put};
-use wire::parse::{CIPHERTEXT_LIMIT, INPUT_LIMIT, parse};
+use wire::{CIPHERTEXT_LIMIT, INPUT_LIMIT, parse};
 
 // Parses a delivery and opens its sheet into the front of a buffer, and answers how many bytes the
 // sheet has.

@@ -3,8 +3,7 @@ ghost use Rattle.std.specs.Prelude.{◌≡◌, ◌<◌, ◌++◌, take, decimal}
 ghost use Rattle.report.specs.Report.{refusal_line};
 
 use buffer::Buffer;
-use fault::kinds::{ConsoleFault, Placed};
-use fault::shown::Fault;
+use fault::{ConsoleFault, Fault, Placed};
 
 // Room for the word, a number of two digits and a line feed.
 type Line = Buffer<11>;

@@ -3,8 +3,8 @@ ghost use Rattle.std.specs.Prelude.{IfSome, OnOk, Some};
 ghost use Rattle.delivery.specs.Told.{suite_of};
 ghost use Rattle.roundtrip.specs.Trips as trips;
 
-use delivery::message::{open, seal};
-use fault::kinds::{Placed, SessionFault};
+use delivery::{open, seal};
+use fault::{Placed, SessionFault};
 use hexits::Hex;
 use std::io::Write;
 use std::{fmt, io};

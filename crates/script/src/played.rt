@@ -2,7 +2,7 @@
 ghost use Rattle.std.specs.Prelude.{◌≡◌, ◌≤◌, [], length, IfOk, OnOk};
 ghost use Rattle.script.specs.Logs.{BodyKept, FinishKept, HeaderKept};
 
-use fault::kinds::{Placed, SessionFault};
+use fault::{Placed, SessionFault};
 use std::alloc::{AllocError, Global};
 
 /// What one call answered: of each kind of call, exactly what the session's call of that name does.

@@ -12,7 +12,7 @@ use crate::engine::Engine;
 use crate::rows::{Lanes, Open, Seal, Way};
 use block::complete;
 use buffer::Buffer;
-use fault::kinds::{Placed, SessionFault};
+use fault::{Placed, SessionFault};
 use std::marker::PhantomData;
 use suite::Suite;
 

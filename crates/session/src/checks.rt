@@ -3,7 +3,7 @@ ghost use Rattle.std.specs.Prelude.{◌≡◌, IfOk, None};
 ghost use Rattle.fault.specs.Refusals.{RefusedBy, session_faults};
 ghost use Rattle.session.specs.Calls.{body_checks, tag_check};
 
-use fault::kinds::{Placed, SessionFault};
+use fault::{Placed, SessionFault};
 
 // The most bytes that a header has.
 pub(crate) const HEADER_MOST: usize = 65536;

@@ -12,7 +12,7 @@ use crate::keys::KeyPlace;
 use crate::rows::{Open, Seal, Way};
 use block::xor;
 use buffer::Buffer;
-use fault::kinds::{Placed, SessionFault};
+use fault::{Placed, SessionFault};
 use std::marker::PhantomData;
 use suite::{HeaderDigest, Keyed, Suite};
 

@@ -3,7 +3,7 @@ ghost use Rattle.std.specs.Prelude.{◌≡◌, replicate, OnErr, OnOk};
 ghost use Rattle.fault.specs.Refusals.{RefusedBy, key_faults};
 ghost use Rattle.session.specs.Calls.{key_check};
 
-use fault::kinds::{KeyFault, Placed};
+use fault::{KeyFault, Placed};
 
 /// A place for a key of sixteen bytes: zeros until a key is put in.
 #[derive(Clone, Copy)]

@@ -17,10 +17,10 @@ mod body;
 mod checks;
 mod engine;
 mod heading;
-pub mod keys;
+mod keys;
 mod rows;
 mod straight;
-pub mod whole;
+mod whole;
 
 pub use body::{Opening, Sealing, Session};
 pub use heading::Heading;

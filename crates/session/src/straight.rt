@@ -7,7 +7,7 @@ use crate::body::Session;
 use crate::heading::Heading;
 use crate::keys::KeyPlace;
 use crate::rows::{Open, Seal, Way};
-use fault::kinds::{Placed, SessionFault};
+use fault::{Placed, SessionFault};
 use suite::Suite;
 
 // The header and the body, of which neither is refused: the session before its finish, and how many

@@ -10,7 +10,7 @@ ghost use Rattle.session.specs.Calls.{forged, open_checks, seal_checks};
 use crate::checks::{checked, tag_bytes};
 use crate::keys::KeyPlace;
 use crate::straight::{open_straight, seal_straight};
-use fault::kinds::{Placed, SessionFault};
+use fault::{Placed, SessionFault};
 use suite::Suite;
 
 /// Seals `message`, 1 to 1,048,576 bytes, under a `key` of sixteen bytes and a `header` of 65,536

@@ -14,7 +14,7 @@ use Rattle.sheet.specs.Reading.{Read, got, fault, next, check, some, two_of, rea
 use Rattle.sheet.specs.Breaks.{IsField, AreFields, IsDrawingCut, IsCut, IsOutside, AtField, HasUnknown, LacksBit, kinds_of, FailsAt, EndsEarly, HasUnknownBit, MissesBit, HasBadValue, RefusedAt, cut, unknown_bit, missing, value}
 use Rattle.sheet.specs.Laws.{RefusalLaw, FirstLaw}
 use Rattle.sheet.proofs.Maps.{all_at}
-use Rattle.sheet.proofs.Fields.{Octets, octets_left, octets_right, fault_got, Lawful, code_lawful, count_lawful, months_lawful, landing_lawful, drawing_lawful, judged, two_sound, two_small, two_back, some_front}
+use Rattle.sheet.proofs.FieldBytes.{Octets, octets_left, octets_right, fault_got, Lawful, code_lawful, count_lawful, months_lawful, landing_lawful, drawing_lawful, judged, two_sound, two_small, two_back, some_front}
 
 true_false : true ≡ false → ⊥
 true_false e = let z : ◌≡◌ {A = ℕ} 1 0 = ap (λ b. cond b 1 0) e in omega arith

@@ -12,7 +12,7 @@ use Rattle.sheet.specs.Calls.{Follows, Holds, Broken}
 use Rattle.sheet.specs.Laws.{HasEntry, HasRefusal, EntryLaw, ReadingLaw, UniqueLaw, HoldsLaw, BrokenLaw}
 use Rattle.sheet.specs.Breaks.{RefusedAt}
 use Rattle.sheet.proofs.Breaking.{refusals, first}
-use Rattle.sheet.proofs.Fields.{Octets, octets_right, fault_got, got_same, next_inv, Lawful, code_lawful, count_lawful, months_lawful, landing_lawful, drawing_lawful, held_back, held_sound, map_back, map_flags, map_sound}
+use Rattle.sheet.proofs.FieldBytes.{Octets, octets_right, fault_got, got_same, next_inv, Lawful, code_lawful, count_lawful, months_lawful, landing_lawful, drawing_lawful, held_back, held_sound, map_back, map_flags, map_sound}
 
 pub bytes_on : (e : Item) (rest : List ℕ) → bytes e ++ rest ≡ two (item_map e) ++ (e.code ++ (held text e.parent ++ (two e.count ++ (held one e.landing ++ (held two e.months ++ (held counted e.drawing ++ rest))))))
 bytes_on e rest = simp append_assoc

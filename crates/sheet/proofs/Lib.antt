@@ -1,6 +1,6 @@
 pub mod Maps
 pub mod Steps
-pub mod Fields
+pub mod FieldBytes
 pub mod Tests
 pub mod Values
 pub mod Breaking

@@ -7,11 +7,16 @@
 //! `whole` tests a whole sheet. Below `reader` are the fields one by one (`parts`).
 #![tactic(auto)]
 
-pub mod entry;
-pub mod forms;
+mod entry;
+mod forms;
 mod map;
 mod parts;
-pub mod reader;
+mod reader;
 mod table;
 pub mod whole;
-pub mod writing;
+mod writing;
+
+pub use entry::{Entry, Field, Kind};
+pub use forms::is_good;
+pub use reader::Reader;
+pub use writing::{fields, put, write, write_all, writing_stands};

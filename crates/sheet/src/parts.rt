@@ -10,7 +10,7 @@ ghost use Rattle.sheet.specs.Inner.{Ends, HeldTold, Told};
 use crate::entry::{Entry, Kind};
 use crate::forms::are_signs;
 use crate::map::{all_required, has, only_known};
-use fault::kinds::SheetFault;
+use fault::SheetFault;
 
 // What was read, and the bytes behind it.
 type Read<'a, T> = Result<(T, &'a [u8]), SheetFault>;

@@ -5,7 +5,7 @@ ghost use Rattle.sheet.specs.Calls.{Answered, AnsweredInPlace, Follows, last_fie
 
 use crate::entry::{Entry, Field, Kind};
 use crate::parts::read_entry;
-use fault::kinds::{Placed, SheetFault};
+use fault::{Placed, SheetFault};
 
 /// Reads an opened sheet: a place in it, counted in bytes, and the entry last answered.
 #[derive(Drop)]

@@ -4,7 +4,7 @@ ghost use Rattle.sheet.specs.Laws.{BrokenLaw, EntryLaw, FirstLaw, HoldsLaw, Read
 ghost use Rattle.sheet.specs.Laws.{RefusalLaw, UniqueLaw};
 
 use crate::reader::Reader;
-use fault::kinds::{Placed, SheetFault};
+use fault::{Placed, SheetFault};
 
 /// Tests every entry and answers how many there are. A sheet has one at least.
 ///

@@ -12,7 +12,7 @@ use crate::entry::Entry;
 use crate::forms::is_good;
 use crate::map::map_of;
 use buffer::Buffer;
-use fault::kinds::{Placed, SheetFault};
+use fault::{Placed, SheetFault};
 
 // The most bytes that an entry has.
 const ENTRY_LIMIT: usize = 56;

@@ -1,9 +1,8 @@
 //! Lines of entries: the shortest, the longest and some between, what they refuse, and the yearly
 //! need.
 use crate::samples::{LONGEST, SHORTEST, holds, kept, lacks_room, refuses};
-use listing::line::line;
-use listing::need::yearly_need;
-use sheet::entry::Entry;
+use listing::{line, yearly_need};
+use sheet::Entry;
 use std::alloc::Global;
 use std::fmt::Display;
 use std::process::Abort;

@@ -2,17 +2,14 @@
 //! the buffer then holds, and damage.
 use crate::samples::{SHORTEST, holds, refused};
 use crate::vectors::{ENDS, FOUR_ROUNDS, KEY, LABEL, MIRROR, SEALED, SHAFT, SHEET, TEN_ROUNDS};
-use delivery::message::seal;
-use delivery::sheets::open_sheet;
-use fault::kinds::{KeyFault, SessionFault, SheetFault};
-use fault::shown::Fault;
-use sheet::entry::Entry;
-use sheet::writing::write;
+use delivery::{open_sheet, seal};
+use fault::{Fault, KeyFault, SessionFault, SheetFault};
+use sheet::{Entry, write};
 use std::alloc::{AllocError, Global};
 use std::fmt::Display;
 use std::process::Abort;
 use std::test::Fail;
-use wire::parse::Delivery;
+use wire::Delivery;
 
 #[test]
 fn opens(rt: HostRuntime) {

@@ -2,12 +2,12 @@
 //! over their limits.
 use crate::samples::holds;
 use crate::vectors::KEY;
-use fault::kinds::{ConsoleFault, Placed};
+use fault::{ConsoleFault, Placed};
 use std::alloc::{AllocError, Global};
 use std::fmt::Display;
 use std::process::Abort;
 use std::test::Fail;
-use wire::parse::parse;
+use wire::parse;
 
 const TAG: &'static [u8; 16] = b"\x01\x02\x03\x04\x05\x06\x07\x08\x09\x0a\x0b\x0c\x0d\x0e\x0f\x10";
 

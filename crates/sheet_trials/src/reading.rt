@@ -1,11 +1,9 @@
 //! Reading of entries: field by field, several end to end, and every refusal, with its place and
 //! what is answered after it.
 use crate::samples::{LONGEST, SHORTEST, holds, refused};
-use fault::kinds::SheetFault;
-use sheet::entry::{Entry, Field, Kind};
-use sheet::reader::Reader;
+use fault::SheetFault;
 use sheet::whole::test;
-use sheet::writing::write;
+use sheet::{Entry, Field, Kind, Reader, write};
 use std::alloc::Global;
 use std::fmt::Display;
 use std::process::Abort;

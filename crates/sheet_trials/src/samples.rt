@@ -1,6 +1,6 @@
 //! What the tests share: two entries, what a refusal is, and whether a buffer is as it was filled.
-use fault::kinds::{Placed, SheetFault};
-use sheet::entry::Entry;
+use fault::{Placed, SheetFault};
+use sheet::Entry;
 use std::alloc::Global;
 use std::fmt::Display;
 use std::process::Abort;

@@ -1,6 +1,6 @@
 //! Seals of sheets under each listed suite by another program, which was written from the equations
 //! over another implementation of AES-128.
-use wire::parse::Delivery;
+use wire::Delivery;
 
 pub(crate) const KEY: &'static [u8; 16] = b"sixteen new keys";
 

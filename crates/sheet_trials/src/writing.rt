@@ -2,11 +2,9 @@
 //! it, and what a buffer then holds.
 use crate::samples::{LONGEST, SHORTEST, holds, kept, lacks_room, refused, refuses};
 use crate::vectors::SHEET;
-use fault::kinds::SheetFault;
-use sheet::entry::Entry;
-use sheet::reader::Reader;
+use fault::SheetFault;
 use sheet::whole::test;
-use sheet::writing::{fields, write, write_all};
+use sheet::{Entry, Reader, fields, write, write_all};
 use std::alloc::Global;
 use std::fmt::Display;
 use std::process::Abort;

@@ -6,7 +6,7 @@ ghost use Rattle.trial_forms.proofs.Flips.{flipped_lawful, flips};
 
 use block::xor;
 use suite::{ChainingHash, HeaderDigest, Keyed, Permutation, Suite};
-use suites::numbers::big_endian;
+use suites::big_endian;
 
 // 5A, sixteen times.
 const PATTERN: [u8; 16] = [0x5a; 16];

@@ -9,11 +9,11 @@ ghost use Rattle.std.specs.Prelude.{◌≡◌, ◌≤◌, ◌↔◌, ℕ, List, 
 ghost use Rattle.trial_forms.specs.Flipped.{flipped};
 
 use crate::flipped::Flipped;
-use delivery::sheets::open_sheet_as;
-use fault::kinds::{Placed, SessionFault, SheetFault};
+use delivery::open_sheet_as;
+use fault::{Placed, SessionFault, SheetFault};
 use reading::{Call, play_as};
 use script::{Course, End, Played, Stretch, play};
-use session::{KeyPlace, whole};
+use session::KeyPlace;
 use std::alloc::{AllocError, Global};
 
 pub fn seal(
@@ -29,7 +29,7 @@ pub fn seal(
     ensures seals { IfOk result (λ n. (n ≡ length message.now)
         × Seals (flipped key.now) header.now message.now (take n out.new) tag.new) }
 {
-    whole::seal::<Flipped>(key, header, message, out, tag)
+    session::seal::<Flipped>(key, header, message, out, tag)
 }
 
 pub fn open(
@@ -45,7 +45,7 @@ pub fn open(
     ensures message { IfOk result (λ n. (n ≡ length ciphertext.now)
         × Seals (flipped key.now) header.now (take n out.new) ciphertext.now tag.now) }
 {
-    whole::open::<Flipped>(key, header, ciphertext, tag, out)
+    session::open::<Flipped>(key, header, ciphertext, tag, out)
 }
 
 /// Any list of session calls.

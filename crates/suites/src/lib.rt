@@ -8,10 +8,18 @@
 //! is refused without the proof.
 #![tactic(auto)]
 
-pub mod ciphers;
+mod ciphers;
 pub mod listed;
-pub mod mirror;
-pub mod numbers;
-pub mod one_cipher;
-pub mod shaft;
-pub mod submission;
+mod mirror;
+mod numbers;
+mod one_cipher;
+mod shaft;
+mod submission;
+
+pub use ciphers::{Aes128, Beside, BlockCipher, FourRounds, KeyedHash};
+pub use listed::Listed;
+pub use mirror::{Identity, Mirror, Reversal};
+pub use numbers::{big_endian, coded, little_endian};
+pub use one_cipher::OneCipher;
+pub use shaft::Shaft;
+pub use submission::{Keys, PoetAesFour, PoetAesTen, Submission};

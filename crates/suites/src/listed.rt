@@ -5,7 +5,7 @@ ghost use Rattle.suites.specs.Listed.{IsSuite, LawfulLaw, NumberLaw, listed};
 use crate::mirror::Mirror;
 use crate::shaft::Shaft;
 use crate::submission::{PoetAesFour, PoetAesTen};
-use fault::kinds::{KeyFault, Placed};
+use fault::{KeyFault, Placed};
 use suite::Suite;
 
 /// The number of the shaft suite.
@@ -54,17 +54,17 @@ impl TryFrom<u8> for Listed {
 macro_rules! at_listed {
     ($listed:expr, $($function:ident)::+ ($($argument:expr),* $(,)?)) => {
         match $listed {
-            $crate::listed::Listed::Shaft => {
-                $($function)::+::<$crate::shaft::Shaft>($($argument),*)
+            $crate::Listed::Shaft => {
+                $($function)::+::<$crate::Shaft>($($argument),*)
             }
-            $crate::listed::Listed::PoetAesFour => {
-                $($function)::+::<$crate::submission::PoetAesFour>($($argument),*)
+            $crate::Listed::PoetAesFour => {
+                $($function)::+::<$crate::PoetAesFour>($($argument),*)
             }
-            $crate::listed::Listed::PoetAesTen => {
-                $($function)::+::<$crate::submission::PoetAesTen>($($argument),*)
+            $crate::Listed::PoetAesTen => {
+                $($function)::+::<$crate::PoetAesTen>($($argument),*)
             }
-            $crate::listed::Listed::Mirror => {
-                $($function)::+::<$crate::mirror::Mirror>($($argument),*)
+            $crate::Listed::Mirror => {
+                $($function)::+::<$crate::Mirror>($($argument),*)
             }
         }
     };

@@ -9,9 +9,7 @@ ghost use Rattle.suites.specs.declared.listed.TheConstants.{MIRROR};
 
 use crate::listed::MIRROR;
 use crate::numbers::big_endian;
-use digests::chained::Chained;
-use digests::filled::Filled;
-use digests::filling::WholeStays;
+use digests::{Chained, Filled, WholeStays};
 use suite::{ChainingHash, Keyed, Permutation, Suite};
 
 /// The sixteen bytes in reverse.

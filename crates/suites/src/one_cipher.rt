@@ -4,9 +4,7 @@ ghost use Rattle.forms.proofs.Forming.{keyed_lawful};
 
 use crate::ciphers::{Beside, BlockCipher};
 use crate::numbers::big_endian;
-use digests::chained::Chained;
-use digests::filled::Filled;
-use digests::filling::Filling;
+use digests::{Chained, Filled, Filling};
 use std::marker::PhantomData;
 use suite::{Keyed, Suite};
 

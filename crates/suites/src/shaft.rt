@@ -3,7 +3,7 @@
 use crate::ciphers::Aes128;
 use crate::listed::SHAFT;
 use crate::one_cipher::OneCipher;
-use digests::filling::WholeStays;
+use digests::WholeStays;
 
 /// Suite 1.
 pub type Shaft = OneCipher<Aes128, WholeStays, SHAFT>;

@@ -8,9 +8,7 @@ ghost use Rattle.std.specs.Prelude.{◌≡◌};
 use crate::ciphers::{Aes128, Beside, BlockCipher, FourRounds, KeyedHash};
 use crate::listed::{POET_AES_FOUR, POET_AES_TEN};
 use crate::numbers::{big_endian, coded};
-use digests::filled::Filled;
-use digests::filling::AlwaysPadded;
-use digests::masked::Masked;
+use digests::{AlwaysPadded, Filled, Masked};
 use std::marker::PhantomData;
 use suite::{HeaderDigest, Keyed, Suite};
 

@@ -1,9 +1,8 @@
 //! A caller's program: one message sealed by a session in a single stretch. The compiler refuses it
 //! once it adds header bytes after the start, or asks a finished session for a second tag
 //! (docs/REFUSALS.md).
-use fault::kinds::{Placed, SessionFault};
-use session::Heading;
-use session::keys::KeyPlace;
+use fault::{Placed, SessionFault};
+use session::{Heading, KeyPlace};
 use suite::Suite;
 
 pub(crate) fn seal_once<S: Suite>(

@@ -4,7 +4,7 @@
 //! The expected values are those that `tools/seals.py` prints, which shares no code with the
 //! crates.
 use crate::samples::{holds, same};
-use delivery::message::{open, seal};
+use delivery::{open, seal};
 use std::alloc::{AllocError, Global};
 use std::process::Abort;
 use std::test::Fail;

@@ -6,8 +6,8 @@
 //! crates.
 use crate::chains::{KEY, key_from, pattern, sealed};
 use crate::samples::{holds, refused, same};
-use delivery::message::open;
-use fault::kinds::SessionFault;
+use delivery::open;
+use fault::SessionFault;
 use std::alloc::Global;
 use std::process::Abort;
 use std::test::Fail;

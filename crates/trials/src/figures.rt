@@ -1,9 +1,9 @@
 //! Figures that the mirror suite must give under the empty header.
 use crate::samples::{same, wrote};
-use session::whole::{open, seal};
+use session::{open, seal};
 use std::test::Fail;
 use suite::{ChainingHash, HeaderDigest, Permutation, Suite};
-use suites::mirror::Mirror;
+use suites::Mirror;
 
 // The key of all figures; the mirror suite does not use it.
 const KEY: [u8; 16] = [0x2a; 16];

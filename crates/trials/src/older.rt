@@ -8,12 +8,10 @@ ghost use Rattle.trial_forms.proofs.Olders.{older_lawful};
 
 use block::{complete, xor};
 use buffer::Buffer;
-use digests::doubling::double;
+use digests::double;
 use std::marker::PhantomData;
 use suite::{HeaderDigest, Keyed, Permutation, Suite};
-use suites::ciphers::{Aes128, KeyedHash};
-use suites::numbers::coded;
-use suites::submission::Keys;
+use suites::{Aes128, KeyedHash, Keys, coded};
 
 const PADDING: [u8; 16] = [0x80, 0, 0, 0, 0, 0, 0, 0, 0, 0, 0, 0, 0, 0, 0, 0];
 

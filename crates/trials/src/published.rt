@@ -5,13 +5,12 @@ use crate::older::OlderSuite;
 use crate::samples::{holds, played, same, stretches, wrote};
 use block::xor;
 use script::{Answer, Course, End};
-use session::whole::{open, seal};
+use session::{open, seal};
 use std::alloc::Global;
 use std::process::Abort;
 use std::test::Fail;
 use suite::{ChainingHash, HeaderDigest, Keyed, Permutation, Suite};
-use suites::ciphers::{Aes128, FourRounds};
-use suites::submission::Keys;
+use suites::{Aes128, FourRounds, Keys};
 
 // A key with the keys that are made from it, a header with its digest, and a message with its seal
 // under either suite.

@@ -1,12 +1,12 @@
 //! Every refusal of the calls for whole buffers, at its limit and one past it, in its order, and
 //! what the buffers then hold.
 use crate::samples::{holds, kept, refused};
-use fault::kinds::{KeyFault, Placed, SessionFault};
-use session::whole::{open, seal};
+use fault::{KeyFault, Placed, SessionFault};
+use session::{open, seal};
 use std::alloc::Global;
 use std::process::Abort;
 use std::test::Fail;
-use suites::mirror::Mirror;
+use suites::Mirror;
 
 const KEY_LENGTH: SessionFault = SessionFault::Key(KeyFault::Length);
 

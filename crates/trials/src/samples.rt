@@ -2,7 +2,7 @@
 //! in stretches.
 ghost use Rattle.std.specs.Prelude.{◌≤◌};
 
-use fault::kinds::{Placed, SessionFault};
+use fault::{Placed, SessionFault};
 use script::{Course, End, Played, Stretch, play};
 use session::KeyPlace;
 use std::alloc::{AllocError, Global};

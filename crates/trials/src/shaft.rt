@@ -2,8 +2,8 @@
 //! damaged.
 use crate::samples::{holds, kept, refused, same, wrote};
 use crate::vectors::{VECTORS, Vector};
-use delivery::message::{open, seal};
-use fault::kinds::SessionFault;
+use delivery::{open, seal};
+use fault::SessionFault;
 use std::process::Abort;
 use std::test::Fail;
 

@@ -4,14 +4,14 @@ ghost use Rattle.std.specs.Prelude.{◌≤◌};
 
 use crate::caller::seal_once;
 use crate::samples::{holds, placed, played, refused, same, stretches};
-use fault::kinds::{Placed, SessionFault};
+use fault::{Placed, SessionFault};
 use script::{Answer, Course, End, Played, Stretch};
-use session::whole::seal;
+use session::seal;
 use std::alloc::Global;
 use std::fmt::Display;
 use std::process::Abort;
 use std::test::Fail;
-use suites::mirror::Mirror;
+use suites::Mirror;
 
 const MESSAGE: [u8; 40] = [7; 40];
 

@@ -2,8 +2,8 @@
 //! altered.
 use crate::samples::{holds, refused, same};
 use anyhow::anyhow;
-use delivery::message::{open, seal};
-use fault::kinds::{KeyFault, SessionFault};
+use delivery::{open, seal};
+use fault::{KeyFault, SessionFault};
 use std::process::Abort;
 use std::test::Fail;
 

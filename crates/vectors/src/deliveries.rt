@@ -1,14 +1,14 @@
 //! Deliveries that are accepted, one for each refusal that a delivery can meet, and what is printed
 //! for each.
 use crate::rows::half_right;
-use delivery::message::seal;
+use delivery::seal;
 use hexits::Hex;
 use report::print;
 use std::alloc::{AllocError, Global};
 use std::io;
 use std::io::Write;
+use suites::Shaft;
 use suites::listed::{MIRROR, POET_AES_FOUR, POET_AES_TEN, SHAFT};
-use suites::shaft::Shaft;
 
 const KEY: [u8; 16] = [0x2a; 16];
 

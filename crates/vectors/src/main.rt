@@ -14,11 +14,7 @@ use std::alloc::Global;
 use std::io::Write;
 use std::{env, io};
 use suite::{Permutation, Suite};
-use suites::ciphers::{Aes128, KeyedHash};
-use suites::mirror::Mirror;
-use suites::numbers::big_endian;
-use suites::shaft::Shaft;
-use suites::submission::{Keys, PoetAesFour, PoetAesTen};
+use suites::{Aes128, KeyedHash, Keys, Mirror, PoetAesFour, PoetAesTen, Shaft, big_endian};
 
 const KEY: [u8; 16] = [0, 1, 2, 3, 4, 5, 6, 7, 8, 9, 10, 11, 12, 13, 14, 15];
 

@@ -4,7 +4,7 @@ use Rattle.std.specs.Option.{ok_or}
 use Rattle.fault.specs.declared.kinds.ConsoleFault.{ConsoleFault}
 use Rattle.fault.specs.declared.kinds.Placed.{Placed}
 use Rattle.fault.specs.Refusals.{placed, console_faults}
-use Rattle.wire.specs.declared.parse.Delivery.{Delivery}
+use Rattle.wire.specs.declared.parsing.Delivery.{Delivery}
 use Rattle.wire.specs.Wire.{Parts, Limits, wire, malformed, parts_of, Parsed, Found, two_ahead, four_ahead}
 use Rattle.wire.proofs.Pieces.{separate, ahead_separate, two_coded, four_coded}
 

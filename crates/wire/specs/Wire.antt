@@ -7,7 +7,7 @@ use Rattle.fault.specs.declared.kinds.ConsoleFault.TheVariants.{Input}
 use Rattle.fault.specs.declared.kinds.Layer.TheVariants.{Console as ConsoleLayer}
 use Rattle.fault.specs.declared.kinds.Placed.{Placed}
 use Rattle.fault.specs.Refusals.{Refusal, refusal, IsRefusal, console_faults}
-use Rattle.wire.specs.declared.parse.Delivery.{Delivery}
+use Rattle.wire.specs.declared.parsing.Delivery.{Delivery}
 
 -- the parts of a delivery
 pub record Parts : Type 0 where

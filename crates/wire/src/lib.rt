@@ -1,4 +1,6 @@
 //! Deliveries as bytes: the parts of one, and how it is parsed.
 #![tactic(auto)]
 
-pub mod parse;
+mod parsing;
+
+pub use parsing::{CIPHERTEXT_LIMIT, Delivery, HEADER_LIMIT, INPUT_LIMIT, parse};

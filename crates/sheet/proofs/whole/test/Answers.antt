@@ -2,7 +2,7 @@ use Rattle.std.proofs.Common.{◌<◌, ap, ◌∙◌}
 use Rattle.std.proofs.lemmas.List.Elements.{All-from_get_or}
 use Rattle.std.proofs.lemmas.Result.{err_from_is_err_and}
 use Rattle.sheet.proofs.Decoding.{on, refusal}
-use Rattle.sheet.proofs.Fields.{Octets}
+use Rattle.sheet.proofs.FieldBytes.{Octets}
 use Rattle.sheet.proofs.whole.test.Goals as goal
 
 pub returns-in_err-next : goal.returns-in_err-next

@@ -3,7 +3,7 @@ use lib.Count.{ones}
 use Rattle.sheet.specs.Entries.{item_map, item_of}
 use Rattle.sheet.proofs.Count.{counts}
 use Rattle.sheet.proofs.Ones.{ones_16}
-use Rattle.sheet.proofs.Fields.{map_flags}
+use Rattle.sheet.proofs.FieldBytes.{map_flags}
 use Rattle.sheet.proofs.writing.fields.Goals as goal
 
 pub returns : goal.returns

@@ -4,7 +4,7 @@ ghost use Rattle.std.specs.Prelude.{◌≡◌, ◌≤◌, length};
 ghost use Rattle.wire.specs.Wire.{Found, Parsed, Taken, four_ahead, two_ahead};
 ghost use Rattle.wire.specs.Wire.{ciphertext_limit, header_limit};
 
-use fault::kinds::{ConsoleFault, Placed};
+use fault::{ConsoleFault, Placed};
 
 const KEY_LEN: usize = 16;
 

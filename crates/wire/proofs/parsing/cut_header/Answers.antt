@@ -1,6 +1,6 @@
 use Rattle.std.proofs.Common.{arith}
 use Rattle.wire.proofs.Pieces.{chunk, told, two_coded}
-use Rattle.wire.proofs.parse.cut_header.Goals as goal
+use Rattle.wire.proofs.parsing.cut_header.Goals as goal
 
 pub returns : goal.returns
 returns c =

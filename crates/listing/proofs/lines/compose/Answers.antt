@@ -5,7 +5,7 @@ use Rattle.sheet.specs.Entries.{Held, NumberForm, item_of, text}
 use Rattle.sheet.proofs.Values.{Filled, filled_more}
 use Rattle.listing.specs.Lines.{Needed, need as yearly, shown, line_of, need_of}
 use Rattle.listing.proofs.Lengths.{fits, line_length, months_some}
-use Rattle.listing.proofs.line.compose.Goals as goal
+use Rattle.listing.proofs.lines.compose.Goals as goal
 
 shown_lent : (o : Option (Bor (List ℕ))) → shown (λ s. s.now) o ≡ shown text (option_map (λ s. s.now) o)
 shown_lent None = refl

@@ -6,10 +6,8 @@ ghost use Rattle.listing.specs.Lines.{LineLaw, Lined, line_of};
 use crate::fields::{Line, put_field};
 use crate::need::yearly_need;
 use buffer::Buffer;
-use fault::kinds::{Placed, SheetFault};
-use sheet::entry::Entry;
-use sheet::forms::is_good;
-use sheet::writing::put;
+use fault::{Placed, SheetFault};
+use sheet::{Entry, is_good, put};
 
 /// The most bytes that the line of a good entry has.
 pub const LINE_LIMIT: usize = 70;

@@ -2,7 +2,7 @@ use Rattle.std.proofs.Common.{refl, ◌∙◌}
 use Rattle.sheet.specs.Entries.{item_of}
 use Rattle.sheet.proofs.Values.{wrote_as}
 use Rattle.listing.proofs.Lengths.{line_law}
-use Rattle.listing.proofs.line.line.Goals as goal
+use Rattle.listing.proofs.lines.line.Goals as goal
 
 pub returns-then-not-is_good-clause-law : goal.returns-then-not-is_good-clause-law
 returns-then-not-is_good-clause-law c = line_law

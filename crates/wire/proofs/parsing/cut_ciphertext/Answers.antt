@@ -1,6 +1,6 @@
 use Rattle.std.proofs.Common.{arith}
 use Rattle.wire.proofs.Pieces.{chunk, told, four_coded}
-use Rattle.wire.proofs.parse.cut_ciphertext.Goals as goal
+use Rattle.wire.proofs.parsing.cut_ciphertext.Goals as goal
 
 pub returns : goal.returns
 returns c =

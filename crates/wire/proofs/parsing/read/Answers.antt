@@ -1,6 +1,6 @@
 use Rattle.std.proofs.Common.{length, sym, ap, ◌∙◌}
 use Rattle.wire.proofs.Whole.{after_header, suite_cut, key_cut, header_cut, ciphertext_cut}
-use Rattle.wire.proofs.parse.read.Goals as goal
+use Rattle.wire.proofs.parsing.read.Goals as goal
 
 pub returns-in_err-header : goal.returns-in_err-header
 returns-in_err-header c =
