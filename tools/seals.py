@@ -1,6 +1,6 @@
 """Seals of POET v2.0 by the equations, apart from the crates: what the tests expect.
 
-It shares no code with the repository. AES-128 is written from FIPS 197 with a substitution table
+It shares no code with the crates. AES-128 is written from FIPS 197 with a substitution table
 that is computed from the field's rule; the suites are written from the definitions in docs/FORMAT.md
 and the POET v2.0 submission. Run it, with Python 3 alone, to print the values that stand in
 `crates/trials/src/chains.rt` and `crates/trials/src/edges.rt`:
