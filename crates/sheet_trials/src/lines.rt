@@ -30,7 +30,14 @@ fn shows(
     let mut buf = [0xee; 75];
     holds(rt, line(e, &mut buf, 3) == Ok(end), "other end", case);
     kept(rt, &buf, 3, end, case);
-    lacks_room(rt, heap, line, e, end, case)
+    lacks_room(
+        rt,
+        heap,
+        |e: Entry<&[u8]>, buf: &mut [u8], at: usize| line(e, buf, at),
+        e,
+        end,
+        case,
+    )
 }
 
 const LINES: [(Entry<&'static [u8]>, &'static [u8], &'static str); 5] = [
@@ -104,7 +111,14 @@ const OUTSIDE: [(Entry<&'static [u8]>, &'static str); 3] = [
 #[test]
 fn values_before_room(rt: HostRuntime) -> Result<(), Fail> {
     for (e, case) in OUTSIDE {
-        refuses(&rt, rt.alloc(), line, e, 75, &case)?;
+        refuses(
+            &rt,
+            rt.alloc(),
+            |e: Entry<&[u8]>, buf: &mut [u8], at: usize| line(e, buf, at),
+            e,
+            75,
+            &case,
+        )?;
     }
     Ok(())
 }

@@ -31,7 +31,14 @@ fn accepts(
         "other end in exact room",
         case,
     );
-    lacks_room(rt, heap, write, e, end, case)
+    lacks_room(
+        rt,
+        heap,
+        |e: Entry<&[u8]>, buf: &mut [u8], at: usize| write(e, buf, at),
+        e,
+        end,
+        case,
+    )
 }
 
 fn tried(
@@ -44,7 +51,14 @@ fn tried(
     if good {
         accepts(rt, heap, e, case)
     } else {
-        refuses(rt, heap, write, e, 64, case)
+        refuses(
+            rt,
+            heap,
+            |e: Entry<&[u8]>, buf: &mut [u8], at: usize| write(e, buf, at),
+            e,
+            64,
+            case,
+        )
     }
 }
 
