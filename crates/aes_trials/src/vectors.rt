@@ -5,6 +5,7 @@
 //! processor: round key 0, then four times AESENC, which mixes columns, under the keys 1 to 4. The
 //! same program gives `ten` by AESENC nine times and AESENCLAST.
 
+/// A block under a key, after ten rounds and after four whole ones.
 #[derive(Clone, Copy)]
 pub struct Vector {
     pub key: &'static [u8; 16],
@@ -13,6 +14,7 @@ pub struct Vector {
     pub four: &'static [u8; 16],
 }
 
+/// The blocks, with what they encipher to.
 pub const VECTORS: [Vector; 19] = [
     Vector {
         key: b"\xf2\x5a\x35\x8a\x4b\x46\xed\x03\x40\x8b\xed\x21\x46\x36\xcf\x29",

@@ -57,6 +57,7 @@ impl HeaderDigest for Blind {
     }
 }
 
+/// The suite with no cipher, whose number is 0.
 pub struct Flipped;
 
 impl Suite for Flipped {

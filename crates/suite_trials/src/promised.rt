@@ -16,6 +16,7 @@ use script::{Course, End, Played, Stretch, play};
 use session::KeyPlace;
 use std::alloc::{AllocError, Global};
 
+/// One message, sealed in one call.
 pub fn seal(
     key: &[u8],
     header: &[u8],
@@ -32,6 +33,7 @@ pub fn seal(
     session::seal::<Flipped>(key, header, message, out, tag)
 }
 
+/// One message, opened in one call.
 pub fn open(
     key: &[u8],
     header: &[u8],
@@ -61,6 +63,7 @@ pub fn play_session(
     play::<Flipped>(heap, place, headers, course)
 }
 
+/// A sheet, opened and tested whole.
 pub fn open_sheet(
     key: &[u8],
     header: &[u8],

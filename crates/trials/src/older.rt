@@ -15,7 +15,7 @@ use suites::{Aes128, KeyedHash, Keys, coded};
 
 const PADDING: [u8; 16] = [0x80, 0, 0, 0, 0, 0, 0, 0, 0, 0, 0, 0, 0, 0, 0, 0];
 
-// A digest in progress. A full block waits until it is known whether more bytes follow.
+/// A digest in progress. A full block waits until it is known whether more bytes follow.
 #[derive(Drop)]
 pub struct Older<P> {
     permutation: P,
@@ -89,7 +89,7 @@ fn last_mask(held: &[u8], mask: [u8; 16]) -> [u8; 16]
     }
 }
 
-// The suite with the chaining hash H.
+/// The suite with the chaining hash H.
 pub struct OlderSuite<H> {
     hash: PhantomData<H>,
 }

@@ -2,6 +2,7 @@
 //! seals under suite 1 by another program, which was written from the equations over another
 //! implementation of AES-128.
 
+/// A message under a key and a header, with its seal.
 pub struct Vector {
     pub key: [u8; 16],
     pub header: &'static [u8],
@@ -10,6 +11,7 @@ pub struct Vector {
     pub tag: [u8; 16],
 }
 
+/// The eight of them.
 pub const VECTORS: [Vector; 8] = [
     Vector {
         key: *b"\x68\xaf\x26\x17\x09\x73\xc3\xa1\xfd\xd8\x54\x6f\x01\x75\x1b\xbd",
