@@ -1,7 +1,7 @@
 //! How a header is filled up to whole blocks.
 ghost use Rattle.std.specs.Prelude.{◌≡◌, ℕ, ◌≤◌, ◌%◌, List, ◌++◌, length, MatchOption};
 ghost use Rattle.forms.specs.Filling.{filled, padded};
-ghost use Rattle.forms.specs.Laws.{KeepsBytes};
+ghost use Rattle.forms.specs.Laws.{Injective, KeepsBytes};
 ghost use Rattle.forms.proofs.Fillings.{filled_bytes, filled_front, filled_whole};
 ghost use Rattle.forms.proofs.Fillings.{padded_bytes, padded_front, padded_whole};
 
@@ -46,7 +46,8 @@ impl Filling for WholeStays {
     }
 }
 
-/// Every header gets 80 and zeros; whole blocks get a further block.
+/// Every header gets 80 and zeros; whole blocks get a further block. So no two headers are filled
+/// alike.
 pub struct AlwaysPadded;
 
 impl Filling for AlwaysPadded {
@@ -58,7 +59,11 @@ impl Filling for AlwaysPadded {
 
     ghost bytes = { padded_bytes };
 
-    fn last(held: &Buffer<16>) -> ([u8; 16], Option<[u8; 16]>) {
+    fn last(held: &Buffer<16>) -> ([u8; 16], Option<[u8; 16]>)
+        ensures blocks { MatchOption result.1 (padded held.now ≡ result.0)
+            (λ b. padded held.now ≡ result.0 ++ b) }
+        ensures injective { Injective padded }
+    {
         let held = held.as_slice();
         let block = complete(held, &PADDING);
         if held.len() < 16 {

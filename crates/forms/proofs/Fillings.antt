@@ -1,5 +1,6 @@
--- Both rules of filling: whole blocks come of them, and they go on block by block.
-use Rattle.std.specs.Prelude.{◌≡◌, ℕ, suc, ◌-◌, ◌%◌, ◌<◌, ◌≤◌, Bool, true, false, cond, ◌&&◌, ltb, List, ◌∷◌, ◌++◌, length, take, replicate, ◌==◌, nat_lt, refl}
+-- Both rules of filling: whole blocks come of them, and they go on block by block; and the one that
+-- always pads is injective.
+use Rattle.std.specs.Prelude.{◌≡◌, ℕ, zero, suc, ◌-◌, ◌%◌, ◌<◌, ◌≤◌, Bool, true, false, cond, ◌&&◌, ltb, List, [], ◌∷◌, ◌++◌, length, take, replicate, ◌==◌, nat_lt, refl}
 use Rattle.std.proofs.Math.Path.{ap}
 use Rattle.std.proofs.Common.{sym, ◌∙◌, append_assoc, inl, inr, arith, lit<, length-append}
 use Rattle.std.proofs.lemmas.Bool.{lt-ltb, eqb-true, eqb-false, ltb-true, ltb-false, and_parts, and_cases, cases_Bool, cond-true, cond-false}
@@ -8,6 +9,7 @@ use Rattle.block.specs.Bytes.{Bytes}
 use Rattle.block.proofs.Completing.{completes}
 use Rattle.block.proofs.Xors.{bytes_append, bytes_replicate}
 use Rattle.forms.specs.Filling.{padded, filled}
+use Rattle.forms.specs.Laws.{Injective}
 
 -- a block of 80 and zeros
 abbrev pub further : List ℕ
@@ -48,6 +50,27 @@ padded_short H l =
 pub padded_one : (H : List ℕ) → length H ≡ 16 → padded H ≡ take 16 (H ++ further) ++ further
 unfolding padded
 padded_one H l = rw (take_at H further 16 l) (rw l)
+
+-- no 80 stands among zeros ..
+no_mark : (k : ℕ) (A B : List ℕ) → replicate k 0 ≡ A ++ 0x80 ∷ B → ⊥
+no_mark zero [] B e = absurd cc
+no_mark zero (x ∷ A) B e = absurd cc
+no_mark (suc k) [] B e = let z : ◌≡◌ {A = ℕ} 0 0x80 = cc in omega arith
+no_mark (suc k) (x ∷ A) B e = no_mark k A B cc
+
+-- .. so the last one shows where a header ends
+marked : (H H' : List ℕ) (k k' : ℕ) → H ++ 0x80 ∷ replicate k 0 ≡ H' ++ 0x80 ∷ replicate k' 0 → H ≡ H'
+marked [] [] k k' e = refl
+marked [] (y ∷ H') k k' e = let z : replicate k 0 ≡ H' ++ 0x80 ∷ replicate k' 0 = cc in absurd (no_mark k H' (replicate k' 0) z)
+marked (x ∷ H) [] k k' e = let z : replicate k' 0 ≡ H ++ 0x80 ∷ replicate k 0 = cc in absurd (no_mark k' H (replicate k 0) z)
+marked (x ∷ H) (y ∷ H') k k' e =
+    let z : H ++ 0x80 ∷ replicate k 0 ≡ H' ++ 0x80 ∷ replicate k' 0 = cc in
+    let i = marked H H' k k' z in
+    cc
+
+pub padded_injective : Injective padded
+unfolding padded
+padded_injective H H' e = marked H H' (15 - length H % 16) (15 - length H' % 16) e
 
 -- whether a header stays as it is
 abbrev pub stays : List ℕ → Bool

@@ -1,4 +1,4 @@
--- What holds of doubling, and of suites made of one cipher.
+-- What holds of doubling, of rules of filling, and of suites made of one cipher.
 use Rattle.std.specs.Prelude.{◌≡◌, ℕ, ◌<◌, ◌||◌, List, bit_xor, ◌==◌, if◌then◌else◌}
 use Rattle.block.specs.Bytes.{Bytes, Block}
 use Rattle.block.specs.Permutes.{Permutes}
@@ -25,6 +25,10 @@ Hashes hash = (key b : List ℕ) → Block key → Block b → Block (hash key b
 -- bytes come of bytes
 abbrev pub KeepsBytes : (fill : List ℕ → List ℕ) → Type 0
 KeepsBytes fill = (H : List ℕ) → Bytes H → Bytes (fill H)
+
+-- no two headers are filled alike, whatever their lengths
+abbrev pub Injective : (fill : List ℕ → List ℕ) → Type 0
+Injective fill = (H H' : List ℕ) → fill H ≡ fill H' → H ≡ H'
 
 -- Every block cipher and every rule of filling make a lawful suite.
 abbrev pub KeyedLaw : Type 0

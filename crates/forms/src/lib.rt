@@ -1,6 +1,6 @@
 //! What suites are made of, as definitions with their laws: numbers as blocks, rules of filling,
 //! header digests, and the functions of a suite that is made of one block cipher, in the form of
-//! the shaft suite and in that of the POET v2.0 submission.
+//! the shaft suites and in that of the POET v2.0 submission.
 //!
 //! A function whose name ends in `_stands` does nothing: its contract is a theorem, and the crate
 //! is refused without the proof.
