@@ -7,17 +7,20 @@ use Rattle.fault.specs.declared.kinds.Placed.{Placed}
 use Rattle.block.specs.Bytes.{Block}
 use Rattle.poet.specs.Functions.{Functions, Lawful}
 use Rattle.suites.specs.declared.listed.TheConstants.{SHAFT, POET_AES_FOUR, POET_AES_TEN, MIRROR}
+use Rattle.suites.specs.declared.listed.TheConstants.{SHAFT_PADDED}
 use Rattle.suites.specs.declared.listed.Listed.{Listed}
 use Rattle.suites.specs.declared.listed.Listed.TheVariants.{Shaft, PoetAesFour, PoetAesTen, Mirror}
+use Rattle.suites.specs.declared.listed.Listed.TheVariants.{ShaftPadded}
 use Rattle.suites.specs.Mirror.{mirror}
 use Rattle.suites.specs.PoetAes.{poet_aes_four, poet_aes_ten}
-use Rattle.suites.specs.Shaft.{shaft}
+use Rattle.suites.specs.Shaft.{shaft, shaft_padded}
 
 abbrev pub number_of : Listed → ℕ
 number_of Shaft = SHAFT
 number_of PoetAesFour = POET_AES_FOUR
 number_of PoetAesTen = POET_AES_TEN
 number_of Mirror = MIRROR
+number_of ShaftPadded = SHAFT_PADDED
 
 -- its functions, under each key
 abbrev pub functions_of : Listed → List ℕ → Functions
@@ -25,6 +28,7 @@ functions_of Shaft = shaft
 functions_of PoetAesFour = poet_aes_four
 functions_of PoetAesTen = poet_aes_ten
 functions_of Mirror = mirror
+functions_of ShaftPadded = shaft_padded
 
 -- The suite with a number. One that is not listed is its own place.
 abbrev pub listed : ℕ → Result Listed (Placed KeyFault)
@@ -33,6 +37,7 @@ listed n =
     else if n == POET_AES_FOUR then Ok PoetAesFour
     else if n == POET_AES_TEN then Ok PoetAesTen
     else if n == MIRROR then Ok Mirror
+    else if n == SHAFT_PADDED then Ok ShaftPadded
     else Err (record { fault = Suite; place = n })
 
 -- the listed suite s is that with the number n and these functions

@@ -1,10 +1,14 @@
--- The shaft suite: AES-128 under two keys, both made from the delivered key; a header of whole
--- blocks stays as it is.
+-- The shaft suites: AES-128 under two keys, both made from the delivered key.
 use Rattle.std.specs.Prelude.{ℕ, List}
 use Rattle.poet.specs.Functions.{Functions}
 use Rattle.aes.specs.Expansion.{aes, inv_aes}
-use Rattle.forms.specs.Filling.{filled}
+use Rattle.forms.specs.Filling.{filled, padded}
 use Rattle.forms.specs.Keyed.{keyed_by}
 
+-- a header of whole blocks stays as it is
 abbrev pub shaft : List ℕ → Functions
 shaft = keyed_by aes inv_aes filled
+
+-- every header is padded, so no two are filled alike
+abbrev pub shaft_padded : List ℕ → Functions
+shaft_padded = keyed_by aes inv_aes padded

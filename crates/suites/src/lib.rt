@@ -21,5 +21,5 @@ pub use listed::Listed;
 pub use mirror::{Identity, Mirror, Reversal};
 pub use numbers::{big_endian, coded, little_endian};
 pub use one_cipher::OneCipher;
-pub use shaft::Shaft;
+pub use shaft::{Shaft, ShaftPadded};
 pub use submission::{Keys, PoetAesFour, PoetAesTen, Submission};

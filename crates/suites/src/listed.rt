@@ -3,12 +3,12 @@ ghost use Rattle.std.specs.Prelude.{◌≡◌};
 ghost use Rattle.suites.specs.Listed.{IsSuite, LawfulLaw, NumberLaw, listed};
 
 use crate::mirror::Mirror;
-use crate::shaft::Shaft;
+use crate::shaft::{Shaft, ShaftPadded};
 use crate::submission::{PoetAesFour, PoetAesTen};
 use fault::{KeyFault, Placed};
 use suite::Suite;
 
-/// The number of the shaft suite.
+/// The number of the shaft suite under which whole blocks of a header stay as they are.
 pub const SHAFT: u8 = 1;
 
 /// The number of POET-AES10-AES4.
@@ -20,6 +20,9 @@ pub const POET_AES_TEN: u8 = 3;
 /// The number of the mirror suite.
 pub const MIRROR: u8 = 4;
 
+/// The number of the shaft suite under which every header is padded.
+pub const SHAFT_PADDED: u8 = 5;
+
 /// A listed suite.
 #[derive(Debug, PartialEq, Eq, Clone, Copy)]
 pub enum Listed {
@@ -27,6 +30,7 @@ pub enum Listed {
     PoetAesFour,
     PoetAesTen,
     Mirror,
+    ShaftPadded,
 }
 
 impl TryFrom<u8> for Listed {
@@ -40,6 +44,7 @@ impl TryFrom<u8> for Listed {
             POET_AES_FOUR => Ok(Listed::PoetAesFour),
             POET_AES_TEN => Ok(Listed::PoetAesTen),
             MIRROR => Ok(Listed::Mirror),
+            SHAFT_PADDED => Ok(Listed::ShaftPadded),
             _ => Err(Placed {
                 fault: KeyFault::Suite,
                 place: usize::from(number),
@@ -66,6 +71,9 @@ macro_rules! at_listed {
             $crate::Listed::Mirror => {
                 $($function)::+::<$crate::Mirror>($($argument),*)
             }
+            $crate::Listed::ShaftPadded => {
+                $($function)::+::<$crate::ShaftPadded>($($argument),*)
+            }
         }
     };
 }
@@ -81,6 +89,8 @@ pub fn listed_stands() -> u8
     ensures poet_aes_ten { IsSuite Listed.PoetAesTen
         ⟦<PoetAesTen as Suite>⟧.NUMBER ⟦<PoetAesTen as Suite>⟧.under }
     ensures mirror { IsSuite Listed.Mirror ⟦<Mirror as Suite>⟧.NUMBER ⟦<Mirror as Suite>⟧.under }
+    ensures shaft_padded { IsSuite Listed.ShaftPadded
+        ⟦<ShaftPadded as Suite>⟧.NUMBER ⟦<ShaftPadded as Suite>⟧.under }
 {
     0
 }

@@ -35,7 +35,7 @@ fn both_refuse(rt: &impl Abort, suite: u8, key: &[u8], body: &[u8], tag: &[u8], 
 
 #[test]
 fn unlisted_numbers(rt: HostRuntime) -> Result<(), Fail> {
-    for suite in [0, 5, 6, 9, 255] {
+    for suite in [0, 6, 9, 255] {
         for (key, body, tag, what) in PARTS {
             both_refuse(&rt, suite, key, body, tag, what);
         }
@@ -54,10 +54,10 @@ fn sealed_under(suite: u8) -> anyhow::Result<usize> {
 #[test]
 fn goes_up_as_an_error(rt: HostRuntime) -> anyhow::Result<()> {
     assert_eq!(rt; sealed_under(1)?, 4);
-    let Err(error) = sealed_under(5) else {
+    let Err(error) = sealed_under(9) else {
         return Err(anyhow!("an unlisted suite sealed"));
     };
     let text = format!(in rt.alloc(); "{error}")?;
-    assert!(rt; text.as_str() == "refused 2 by the key layer at 5");
+    assert!(rt; text.as_str() == "refused 2 by the key layer at 9");
     Ok(())
 }
