@@ -8,7 +8,7 @@ use fault::{Placed, SessionFault};
 use hexits::Hex;
 use std::io::Write;
 use std::{fmt, io};
-use suites::listed::{MIRROR, POET_AES_FOUR, POET_AES_TEN, SHAFT};
+use suites::listed::{MIRROR, POET_AES_FOUR, POET_AES_TEN, SHAFT, SHAFT_PADDED};
 
 const KEY: [u8; 16] = [0x2a; 16];
 
@@ -32,11 +32,12 @@ pub(crate) fn run<W: Write>(writer: &mut W) -> io::Result<()>
     let four = Trip::under(POET_AES_FOUR);
     let ten = Trip::under(POET_AES_TEN);
     let mirror = Trip::under(MIRROR);
+    let padded = Trip::under(SHAFT_PADDED);
     write!(
         writer,
         "label      {label}
 message    {message}
-{shaft}{four}{ten}{mirror}"
+{shaft}{four}{ten}{mirror}{padded}"
     )
 }
 

@@ -14,7 +14,9 @@ use std::alloc::Global;
 use std::io::Write;
 use std::{env, io};
 use suite::{Permutation, Suite};
-use suites::{Aes128, KeyedHash, Keys, Mirror, PoetAesFour, PoetAesTen, Shaft, big_endian};
+use suites::{
+    Aes128, KeyedHash, Keys, Mirror, PoetAesFour, PoetAesTen, Shaft, ShaftPadded, big_endian,
+};
 
 const KEY: [u8; 16] = [0, 1, 2, 3, 4, 5, 6, 7, 8, 9, 10, 11, 12, 13, 14, 15];
 
@@ -46,16 +48,21 @@ fn main(rt: HostRuntime) -> anyhow::Result<()> {
 
 /// Writes the figures of every suite, and then the deliveries.
 fn run<W: Write>(alloc: Global, writer: &mut W) -> anyhow::Result<()> {
-    head(writer, Shaft::NUMBER)?;
-    let delivered = Aes128::under(KEY);
-    value(writer, "K", &delivered.encrypt(big_endian(1)))?;
-    value(writer, "K_F", &delivered.encrypt(big_endian(2)))?;
-    seals::<Shaft, W>(writer)?;
+    shaft::<Shaft, W>(writer)?;
     submission::<PoetAesFour, W>(writer)?;
     submission::<PoetAesTen, W>(writer)?;
     head(writer, Mirror::NUMBER)?;
     seals::<Mirror, W>(writer)?;
+    shaft::<ShaftPadded, W>(writer)?;
     deliveries(alloc, writer)
+}
+
+fn shaft<S: Suite, W: Write>(writer: &mut W) -> io::Result<()> {
+    head(writer, S::NUMBER)?;
+    let delivered = Aes128::under(KEY);
+    value(writer, "K", &delivered.encrypt(big_endian(1)))?;
+    value(writer, "K_F", &delivered.encrypt(big_endian(2)))?;
+    seals::<S, W>(writer)
 }
 
 fn submission<S: Suite, W: Write>(writer: &mut W) -> io::Result<()> {

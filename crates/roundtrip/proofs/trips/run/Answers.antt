@@ -1,6 +1,6 @@
 use Rattle.std.proofs.Common.{refl}
 use Rattle.std.proofs.lemmas.Result.{on_ok_weaker}
-use Rattle.suites.specs.Shaft.{shaft}
+use Rattle.suites.specs.Shaft.{shaft, shaft_padded}
 use Rattle.suites.specs.PoetAes.{poet_aes_four, poet_aes_ten}
 use Rattle.suites.specs.Mirror.{mirror}
 use Rattle.roundtrip.proofs.trips.run.Goals as goal
@@ -13,10 +13,12 @@ returns g c =
       c.under-four.result,
       c.under-ten.result,
       c.under-mirror.result,
+      c.under-padded.result,
       (shaft, refl, c.under-shaft.ensures),
       (poet_aes_four, refl, c.under-four.ensures),
       (poet_aes_ten, refl, c.under-ten.ensures),
       (mirror, refl, c.under-mirror.ensures),
+      (shaft_padded, refl, c.under-padded.ensures),
       written,
     ))
     c.write.ensures.bytes
