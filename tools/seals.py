@@ -126,10 +126,11 @@ class Suite:
     def __init__(self, number, key):
         delivered = Aes(key)
         self.number = big
+        self.fill = padded if number == 5 else filled
         self.digest = self.chained
         if number == 4:
             self.e, self.f = Reversal(), Identity()
-        elif number == 1:
+        elif number in (1, 5):
             self.e = Aes(delivered.encrypt(big(1)))
             self.f = Aes(delivered.encrypt(big(2)))
         else:
@@ -141,7 +142,7 @@ class Suite:
 
     def chained(self, header):
         x = y = big(1)
-        for block in blocks(filled(header)):
+        for block in blocks(self.fill(header)):
             x = xor(self.f.encrypt(x), block)
             before, y = y, self.e.encrypt(x)
         return xor(self.f.encrypt(before), y)
@@ -221,5 +222,5 @@ if __name__ == "__main__":
     assert sealed.hex() == "69c4e0d86a7b0430d8cdb78070b4c55a", "the example of FIPS 197"
     assert Aes(FIPS_KEY).decrypt(sealed) == FIPS_BLOCK
     for cases in (short, headers, long, longest):
-        for number in (1, 2, 3):
+        for number in (1, 2, 3, 5):
             print(cases.__name__, number, chain(number, cases()).hex())

@@ -1,7 +1,9 @@
 //! Opening of delivered sheets: seals by another program, the largest sheet, every refusal and what
 //! the buffer then holds, and damage.
 use crate::samples::{SHORTEST, holds, refused};
-use crate::vectors::{ENDS, FOUR_ROUNDS, KEY, LABEL, MIRROR, SEALED, SHAFT, SHEET, TEN_ROUNDS};
+use crate::vectors::{
+    ENDS, FIFTEEN, FOUR_ROUNDS, KEY, LABEL, MIRROR, PADDED, SEALED, SHAFT, SHEET, TEN_ROUNDS,
+};
 use delivery::{open_sheet, seal};
 use fault::{Fault, KeyFault, SessionFault, SheetFault};
 use sheet::{Entry, write};
@@ -11,17 +13,42 @@ use std::process::Abort;
 use std::test::Fail;
 use wire::Delivery;
 
+// A delivery is opened to the sheet, and nothing is written past it.
+fn opens(rt: &impl Abort, d: Delivery<'_>) {
+    let mut out = [0xee; 90];
+    assert_eq!(rt; open_sheet(d, &mut out), Ok(3));
+    assert!(rt; &out[0..84] == SHEET.as_slice(), "other sheet");
+    assert!(rt;
+        &out[84..90] == [0xee; 6].as_slice(),
+        "written past the sheet"
+    );
+}
+
 #[test]
-fn opens(rt: HostRuntime) {
+fn opens_sealed(rt: HostRuntime) {
     for d in SEALED {
-        let mut out = [0xee; 90];
-        assert_eq!(rt; open_sheet(d, &mut out), Ok(3));
-        assert!(rt; &out[0..84] == SHEET.as_slice(), "other sheet");
-        assert!(rt;
-            &out[84..90] == [0xee; 6].as_slice(),
-            "written past the sheet"
-        );
+        opens(&rt, d);
     }
+}
+
+// A label of fifteen bytes and the same with 80 behind it: one block under suite 1, and not under
+// suite 5.
+#[test]
+fn label_that_ends_in_80(rt: HostRuntime) -> Result<(), Fail> {
+    let marked = b"lift 7, sheet 1\x80";
+    for suite in [1, 5] {
+        opens(&rt, Delivery { suite, ..FIFTEEN });
+    }
+    let relabelled = Delivery {
+        header: marked,
+        ..FIFTEEN
+    };
+    opens(&rt, relabelled);
+    let padded = Delivery {
+        suite: 5,
+        ..relabelled
+    };
+    forged(&rt, rt.alloc(), padded, &"80 behind the label")
 }
 
 // A sheet of one entry with no header.
@@ -330,7 +357,7 @@ fn damage_shows(rt: &impl Abort, heap: Global, d: Delivery<'_>) -> Result<(), Fa
 
 #[test]
 fn damage_is_refused(rt: HostRuntime) -> Result<(), Fail> {
-    for d in [SHAFT, FOUR_ROUNDS, TEN_ROUNDS] {
+    for d in [SHAFT, FOUR_ROUNDS, TEN_ROUNDS, PADDED] {
         damage_shows(&rt, rt.alloc(), d)?;
     }
     Ok(())

@@ -1,5 +1,6 @@
-//! Suites 1 to 3 against another program at many lengths: messages of 1 to 100 bytes under headers
-//! of 0 to 66, each sealed under a key that comes of all that was sealed before, and opened again.
+//! Suites 1, 2, 3 and 5 against another program at many lengths: messages of 1 to 100 bytes under
+//! headers of 0 to 66, each sealed under a key that comes of all that was sealed before, and opened
+//! again.
 //!
 //! The expected values are those that `tools/seals.py` prints, which shares no code with the
 //! crates.
@@ -13,7 +14,7 @@ use std::test::Fail;
 pub(crate) const KEY: [u8; 16] = [0, 1, 2, 3, 4, 5, 6, 7, 8, 9, 10, 11, 12, 13, 14, 15];
 
 // A suite, and the key after a hundred seals.
-const LAST_KEYS: [(u8, [u8; 16]); 3] = [
+const LAST_KEYS: [(u8, [u8; 16]); 4] = [
     (
         1,
         *b"\xf4\x06\x8e\x22\xe8\x26\x1b\x77\x18\x25\x25\x76\x08\xea\xef\x07",
@@ -25,6 +26,10 @@ const LAST_KEYS: [(u8, [u8; 16]); 3] = [
     (
         3,
         *b"\x56\x74\x82\x5d\xc7\xe1\x67\x28\xc7\xcf\x1f\x44\x94\xc0\x3e\x2e",
+    ),
+    (
+        5,
+        *b"\x4d\x27\x38\xe9\x0d\x48\xb5\xdb\x28\x8c\x3e\xf5\x3e\xfe\x75\x8c",
     ),
 ];
 

@@ -1,6 +1,6 @@
-//! Suites 1 to 3 against another program about the ends of blocks: headers of none to many blocks
-//! and a byte more or less, messages about many blocks, and the longest one. Each is opened again,
-//! and all but the longest are refused once a bit is turned.
+//! Suites 1, 2, 3 and 5 against another program about the ends of blocks: headers of none to many
+//! blocks and a byte more or less, messages about many blocks, and the longest one. Each is opened
+//! again, and all but the longest are refused once a bit is turned.
 //!
 //! The expected values are those that `tools/seals.py` prints, which shares no code with the
 //! crates.
@@ -24,13 +24,16 @@ struct Expected {
     longest: [u8; 16],
 }
 
-const EXPECTED: [Expected; 3] = [
-    Expected {
-        suite: 1,
-        headers: *b"\x71\x47\x63\x86\x99\xc4\xaf\x11\x83\x67\x3e\x8d\xb8\xd5\x41\x08",
-        messages: *b"\x4d\x8c\xa0\xac\x6a\x00\x64\xb1\x1f\x77\x41\x0e\x5c\x13\xb4\xa2",
-        longest: *b"\xea\x1c\xe2\x19\x59\x51\x5a\x44\x8e\x75\xdc\x30\x93\xa7\x90\x13",
-    },
+const SHAFT: Expected = Expected {
+    suite: 1,
+    headers: *b"\x71\x47\x63\x86\x99\xc4\xaf\x11\x83\x67\x3e\x8d\xb8\xd5\x41\x08",
+    messages: *b"\x4d\x8c\xa0\xac\x6a\x00\x64\xb1\x1f\x77\x41\x0e\x5c\x13\xb4\xa2",
+    longest: *b"\xea\x1c\xe2\x19\x59\x51\x5a\x44\x8e\x75\xdc\x30\x93\xa7\x90\x13",
+};
+
+// With no header, suite 5 seals as suite 1 does.
+const EXPECTED: [Expected; 4] = [
+    SHAFT,
     Expected {
         suite: 2,
         headers: *b"\xde\x72\x60\x33\x45\xf3\x71\x36\x59\xa0\x8e\x1b\x35\x94\xf7\x3b",
@@ -42,6 +45,11 @@ const EXPECTED: [Expected; 3] = [
         headers: *b"\x96\x04\xa1\x17\x6a\x5e\x89\x5e\xa0\x71\x80\x8a\x81\x47\xdf\x12",
         messages: *b"\x75\xc6\xeb\x05\x19\x46\xa2\x33\x1e\xbc\x04\xba\x3e\x70\x58\x14",
         longest: *b"\xbf\xbb\xa3\xda\xf3\x8a\x2b\xd3\x04\x28\x6b\x49\xfc\xfa\x26\xea",
+    },
+    Expected {
+        suite: 5,
+        headers: *b"\x02\x05\xa2\x77\x69\x1d\x9d\x68\xb0\x0b\x4a\xe0\xf3\xb2\x23\x41",
+        ..SHAFT
     },
 ];
 
@@ -149,18 +157,23 @@ fn longest(rt: &impl Abort, heap: Global, expected: &Expected) -> Result<(), Fai
 
 #[test]
 fn longest_shaft(rt: HostRuntime) -> Result<(), Fail> {
-    let [shaft, _, _] = &EXPECTED;
-    longest(&rt, rt.alloc(), shaft)
+    longest(&rt, rt.alloc(), &SHAFT)
 }
 
 #[test]
 fn longest_four_rounds(rt: HostRuntime) -> Result<(), Fail> {
-    let [_, four, _] = &EXPECTED;
+    let [_, four, _, _] = &EXPECTED;
     longest(&rt, rt.alloc(), four)
 }
 
 #[test]
 fn longest_ten_rounds(rt: HostRuntime) -> Result<(), Fail> {
-    let [_, _, ten] = &EXPECTED;
+    let [_, _, ten, _] = &EXPECTED;
     longest(&rt, rt.alloc(), ten)
+}
+
+#[test]
+fn longest_padded(rt: HostRuntime) -> Result<(), Fail> {
+    let [_, _, _, padded] = &EXPECTED;
+    longest(&rt, rt.alloc(), padded)
 }

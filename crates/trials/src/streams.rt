@@ -11,7 +11,8 @@ use std::alloc::Global;
 use std::fmt::Display;
 use std::process::Abort;
 use std::test::Fail;
-use suites::Mirror;
+use suite::Suite;
+use suites::{Mirror, ShaftPadded};
 
 const MESSAGE: [u8; 40] = [7; 40];
 
@@ -20,31 +21,32 @@ const HEADER: [u8; 21] = [9; 21];
 const KEY: [u8; 16] = [0x2a; 16];
 
 // The seal of the message, by the call for whole buffers.
-fn whole() -> Result<([u8; 40], [u8; 16]), Fail> {
+fn whole<S: Suite>(header: &[u8]) -> Result<([u8; 40], [u8; 16]), Fail> {
     let mut out = [0; 40];
     let mut tag = [0; 16];
-    seal::<Mirror>(&KEY, &HEADER, &MESSAGE, &mut out, &mut tag)?;
+    seal::<S>(&KEY, header, &MESSAGE, &mut out, &mut tag)?;
     Ok((out, tag))
 }
 
 // The message sealed in stretches of `size`.
-fn seals_cut(
+fn seals_cut<S: Suite>(
     rt: &impl Abort,
     heap: Global,
     size: usize,
+    header: &[u8],
     ciphertext: &[u8; 40],
     tag: &[u8; 16],
 ) -> Result<(), Fail>
     requires { 1 ≤ size }
 {
-    let headers = stretches(heap, &HEADER, size)?;
+    let headers = stretches(heap, header, size)?;
     let bodies = stretches(heap, &MESSAGE, size)?;
     let course = Course::Seal {
         bodies: &bodies,
         finish: true,
     };
-    let (log, end) = played::<Mirror>(heap, &KEY, &headers, course)?;
-    same(rt, &log.header, &HEADER, "other header taken", &size);
+    let (log, end) = played::<S>(heap, &KEY, &headers, course)?;
+    same(rt, &log.header, header, "other header taken", &size);
     same(rt, &log.body, &MESSAGE, "other body taken", &size);
     same(rt, &log.out, ciphertext, "other ciphertext", &size);
     let is_tag = matches!(end, End::Sealed { last: _, tag: t } if t == *tag);
@@ -81,16 +83,27 @@ fn ends(log: &Played, answer: Result<usize, Placed<SessionFault>>) -> bool {
 
 #[test]
 fn cuts_give_one_seal(rt: HostRuntime) -> Result<(), Fail> {
-    let (ciphertext, tag) = whole()?;
+    let (ciphertext, tag) = whole::<Mirror>(&HEADER)?;
     for size in 1..42usize {
-        seals_cut(&rt, rt.alloc(), size, &ciphertext, &tag)?;
+        seals_cut::<Mirror>(&rt, rt.alloc(), size, &HEADER, &ciphertext, &tag)?;
+    }
+    Ok(())
+}
+
+// Whole blocks, behind which the rule of suite 5 has a further one.
+#[test]
+fn cuts_of_whole_blocks(rt: HostRuntime) -> Result<(), Fail> {
+    let header = [9; 32];
+    let (ciphertext, tag) = whole::<ShaftPadded>(&header)?;
+    for size in 1..34usize {
+        seals_cut::<ShaftPadded>(&rt, rt.alloc(), size, &header, &ciphertext, &tag)?;
     }
     Ok(())
 }
 
 #[test]
 fn cuts_open_to_one_message(rt: HostRuntime) -> Result<(), Fail> {
-    let (ciphertext, tag) = whole()?;
+    let (ciphertext, tag) = whole::<Mirror>(&HEADER)?;
     for size in 1..42usize {
         opens_cut(&rt, rt.alloc(), size, &ciphertext, &tag)?;
     }
@@ -168,7 +181,7 @@ fn goes_on_after_refusals(rt: HostRuntime) -> Result<(), Fail> {
         given(0, 8),
         Answer::Finish(Ok(8)),
     ];
-    let (ciphertext, _) = whole()?;
+    let (ciphertext, _) = whole::<Mirror>(&HEADER)?;
     let case = "calls with refusals";
     holds(
         &rt,
@@ -239,7 +252,7 @@ fn refuses(
 #[test]
 fn one_stretch(rt: HostRuntime) -> Result<(), Fail> {
     let place = placed(&KEY)?;
-    let (ciphertext, tag) = whole()?;
+    let (ciphertext, tag) = whole::<Mirror>(&HEADER)?;
     let mut out = [0; 40];
     let mut last = [0; 16];
     let mut other = [0; 16];
