@@ -6,8 +6,6 @@ use Rattle.fault.specs.declared.kinds.KeyFault.TheVariants.{Suite}
 use Rattle.fault.specs.declared.kinds.Placed.{Placed}
 use Rattle.block.specs.Bytes.{Block}
 use Rattle.poet.specs.Functions.{Functions, Lawful}
-use Rattle.suites.specs.declared.listed.TheConstants.{SHAFT, POET_AES_FOUR, POET_AES_TEN, MIRROR}
-use Rattle.suites.specs.declared.listed.TheConstants.{SHAFT_PADDED}
 use Rattle.suites.specs.declared.listed.Listed.{Listed}
 use Rattle.suites.specs.declared.listed.Listed.TheVariants.{Shaft, PoetAesFour, PoetAesTen, Mirror}
 use Rattle.suites.specs.declared.listed.Listed.TheVariants.{ShaftPadded}
@@ -16,11 +14,11 @@ use Rattle.suites.specs.PoetAes.{poet_aes_four, poet_aes_ten}
 use Rattle.suites.specs.Shaft.{shaft, shaft_padded}
 
 abbrev pub number_of : Listed → ℕ
-number_of Shaft = SHAFT
-number_of PoetAesFour = POET_AES_FOUR
-number_of PoetAesTen = POET_AES_TEN
-number_of Mirror = MIRROR
-number_of ShaftPadded = SHAFT_PADDED
+number_of Shaft = 1
+number_of PoetAesFour = 2
+number_of PoetAesTen = 3
+number_of Mirror = 4
+number_of ShaftPadded = 5
 
 -- its functions, under each key
 abbrev pub functions_of : Listed → List ℕ → Functions
@@ -33,11 +31,11 @@ functions_of ShaftPadded = shaft_padded
 -- The suite with a number. One that is not listed is its own place.
 abbrev pub listed : ℕ → Result Listed (Placed KeyFault)
 listed n =
-    if n == SHAFT then Ok Shaft
-    else if n == POET_AES_FOUR then Ok PoetAesFour
-    else if n == POET_AES_TEN then Ok PoetAesTen
-    else if n == MIRROR then Ok Mirror
-    else if n == SHAFT_PADDED then Ok ShaftPadded
+    if n == number_of Shaft then Ok Shaft
+    else if n == number_of PoetAesFour then Ok PoetAesFour
+    else if n == number_of PoetAesTen then Ok PoetAesTen
+    else if n == number_of Mirror then Ok Mirror
+    else if n == number_of ShaftPadded then Ok ShaftPadded
     else Err (record { fault = Suite; place = n })
 
 -- the listed suite s is that with the number n and these functions
