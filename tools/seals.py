@@ -1,9 +1,10 @@
 """Seals of POET v2.0 by the equations, apart from the crates: what the tests expect.
 
 It shares no code with the crates. AES-128 is written from FIPS 197 with a substitution table
-that is computed from the field's rule; the suites are written from the definitions in docs/FORMAT.md
-and the POET v2.0 submission. Run it, with Python 3 alone, to print the values that stand in
-`crates/trials/src/chains.rt` and `crates/trials/src/edges.rt`:
+that is computed from the field's rule, Speck128/128 from its equations; the suites are written
+from the definitions in docs/FORMAT.md and the POET v2.0 submission. Run it, with Python 3 alone, to
+print the values that stand in `chains.rt` and `edges.rt` of `crates/trials/src`, and in
+`crates/speck_trials/src/lib.rt`:
 
     python3 tools/seals.py
 """
@@ -94,6 +95,45 @@ class Reversal:
     decrypt = encrypt
 
 
+WORD = (1 << 64) - 1
+
+
+class Speck:
+    """Speck128/128 under a key."""
+
+    def __init__(self, key):
+        l, k = self.words(key)
+        self.keys = []
+        for i in range(32):
+            self.keys.append(k)
+            l = ((l >> 8 | l << 56 & WORD) + k & WORD) ^ i
+            k = (k << 3 & WORD | k >> 61) ^ l
+
+    @staticmethod
+    def words(block):
+        return int.from_bytes(block[:8], "big"), int.from_bytes(block[8:], "big")
+
+    @staticmethod
+    def round(x, y, key):
+        x = ((x >> 8 | x << 56 & WORD) + y & WORD) ^ key
+        return x, (y << 3 & WORD | y >> 61) ^ x
+
+    def encrypt(self, block):
+        x, y = self.words(block)
+        for key in self.keys:
+            x, y = self.round(x, y, key)
+        return x.to_bytes(8, "big") + y.to_bytes(8, "big")
+
+    def decrypt(self, block):
+        x, y = self.words(block)
+        for key in reversed(self.keys):
+            y ^= x
+            y = y >> 3 | y << 61 & WORD
+            x = (x ^ key) - y & WORD
+            x = x << 8 & WORD | x >> 56
+        return x.to_bytes(8, "big") + y.to_bytes(8, "big")
+
+
 def big(n):
     return n.to_bytes(16, "big")
 
@@ -124,15 +164,16 @@ class Suite:
     """The suite with a number under a key: self.e, self.f, self.number, self.digest."""
 
     def __init__(self, number, key):
-        delivered = Aes(key)
+        cipher = Speck if number == 6 else Aes
+        delivered = cipher(key)
         self.number = big
-        self.fill = padded if number == 5 else filled
+        self.fill = padded if number in (5, 6) else filled
         self.digest = self.chained
         if number == 4:
             self.e, self.f = Reversal(), Identity()
-        elif number in (1, 5):
-            self.e = Aes(delivered.encrypt(big(1)))
-            self.f = Aes(delivered.encrypt(big(2)))
+        elif number in (1, 5, 6):
+            self.e = cipher(delivered.encrypt(big(1)))
+            self.f = cipher(delivered.encrypt(big(2)))
         else:
             self.e = Aes(delivered.encrypt(big(0)))
             self.mask = delivered.encrypt(big(1))
@@ -217,10 +258,43 @@ def longest():
 FIPS_KEY = bytes(range(16))
 FIPS_BLOCK = bytes(17 * i for i in range(16))
 
+SPECK_KEY = bytes(reversed(range(16)))
+SPECK_BLOCK = b"laviuqe ti edam "
+
+
+def growing_ones():
+    """The blocks whose first bit is 1, whose first two are, and so on to all."""
+    for n in range(1, 129):
+        yield big((1 << 128) - (1 << 128 - n))
+
+
+def total(blocks):
+    """The exclusive or of all the blocks."""
+    result = bytes(16)
+    for block in blocks:
+        result = xor(result, block)
+    return result
+
+
+def speck_chain(times):
+    """The next block is the last one enciphered, which is added to the key for the next key."""
+    key, block = SPECK_KEY, SPECK_BLOCK
+    for _ in range(times):
+        block = Speck(key).encrypt(block)
+        key = xor(key, block)
+    return block
+
 if __name__ == "__main__":
     sealed = Aes(FIPS_KEY).encrypt(FIPS_BLOCK)
     assert sealed.hex() == "69c4e0d86a7b0430d8cdb78070b4c55a", "the example of FIPS 197"
     assert Aes(FIPS_KEY).decrypt(sealed) == FIPS_BLOCK
+    sealed = Speck(SPECK_KEY).encrypt(SPECK_BLOCK)
+    assert sealed.hex() == "a65d9851797832657860fedf5c570d18", "the designers' vector"
+    assert Speck(SPECK_KEY).decrypt(sealed) == SPECK_BLOCK
+    zeros = bytes(16)
+    print("speck texts", total(map(Speck(zeros).encrypt, growing_ones())).hex())
+    print("speck keys", total(Speck(key).encrypt(zeros) for key in growing_ones()).hex())
+    print("speck chain", speck_chain(1000).hex())
     for cases in (short, headers, long, longest):
-        for number in (1, 2, 3, 5):
+        for number in (1, 2, 3, 5, 6):
             print(cases.__name__, number, chain(number, cases()).hex())
