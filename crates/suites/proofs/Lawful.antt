@@ -1,10 +1,9 @@
 -- The list: each suite under its own number and no other, and all lawful.
-use Rattle.std.specs.Prelude.{◌≡◌, ℕ, Ok, Err, Result, ◌==◌, if◌then◌else◌, refl}
+use Rattle.std.specs.Prelude.{◌≡◌, ℕ, Ok, Some, None, Option, ◌==◌, if◌then◌else◌, refl}
+use Rattle.std.specs.Option.{ok_or}
 use Rattle.std.proofs.Math.Path.{ap}
 use Rattle.std.proofs.Common.{sym, ◌∙◌, inl, inr, arith}
 use Rattle.std.proofs.lemmas.Bool.{eqb-true, cases_Bool, cond-true, cond-false}
-use Rattle.fault.specs.declared.kinds.KeyFault.{KeyFault}
-use Rattle.fault.specs.declared.kinds.Placed.{Placed}
 use Rattle.aes.specs.Expansion.{schedule, aes, inv_aes, aes4}
 use Rattle.aes.proofs.Schedules.{expands}
 use Rattle.aes.proofs.Undone.{cipher_permutes, cipher4_permutes}
@@ -15,7 +14,7 @@ use Rattle.forms.proofs.Forming.{chained_lawful, keyed_lawful, submitted_lawful,
 use Rattle.forms.proofs.Reversing.{reversal}
 use Rattle.suites.specs.declared.listed.Listed.{Listed}
 use Rattle.suites.specs.declared.listed.Listed.TheVariants.{Shaft, PoetAesFour, PoetAesTen, Mirror, ShaftPadded}
-use Rattle.suites.specs.Listed.{number_of, listed, LawfulLaw, NumberLaw}
+use Rattle.suites.specs.Listed.{number_of, numbered, listed, LawfulLaw, NumberLaw}
 
 pub aes_inverts : Inverts aes inv_aes
 aes_inverts key k = cipher_permutes (schedule key) (expands key k)
@@ -31,31 +30,40 @@ listed_lawful Mirror = λ key k. chained_lawful _ _ (λ b. b) reversal (λ b p. 
 listed_lawful ShaftPadded = keyed_lawful aes inv_aes aes_inverts padded padded_bytes
 
 -- a line of the list, with the lines behind it
-line : (n k : ℕ) (x s : Listed) (more : Result Listed (Placed KeyFault)) → number_of x ≡ k → (more ≡ Ok s → n ≡ number_of s)
-    → (if n == k then Ok x else more) ≡ Ok s → n ≡ number_of s
+line : (n k : ℕ) (x s : Listed) (more : Option Listed) → number_of x ≡ k → (more ≡ Some s → n ≡ number_of s)
+    → (if n == k then Some x else more) ≡ Some s → n ≡ number_of s
 line n k x s more h m e =
     elim (cases_Bool (n == k)) [
       | inl t ↦ (
-          let w = cond-true (n == k) (Ok x) more t in
+          let w = cond-true (n == k) (Some x) more t in
           let q : x ≡ s = cc in
           eqb-true n k t ∙ sym h ∙ ap number_of q
           )
-      | inr f ↦ m (sym (cond-false (n == k) (Ok x) more f) ∙ e)
+      | inr f ↦ m (sym (cond-false (n == k) (Some x) more f) ∙ e)
     ]
 
-never : {A B G : Type 0} (a : A) (b : B) → ◌≡◌ {A = Result A B} (Err b) (Ok a) → G
-never a b e = let z : ◌≡◌ {A = ℕ} 0 1 = cc in absurd (omega arith)
+never : {A G : Type 0} (a : A) → ◌≡◌ {A = Option A} None (Some a) → G
+never a e = let z : ◌≡◌ {A = ℕ} 0 1 = cc in absurd (omega arith)
 
-under_own : (s : Listed) (n : ℕ) → listed n ≡ Ok s → n ≡ number_of s
+under_own : (s : Listed) (n : ℕ) → numbered n ≡ Some s → n ≡ number_of s
+unfolding numbered
 under_own s n =
-    line n _ Shaft s _ refl (line n _ PoetAesFour s _ refl (line n _ PoetAesTen s _ refl (line n _ Mirror s _ refl (line n _ ShaftPadded s _ refl (never s _)))))
+    line n _ Shaft s _ refl (line n _ PoetAesFour s _ refl (line n _ PoetAesTen s _ refl (line n _ Mirror s _ refl (line n _ ShaftPadded s _ refl (never s)))))
 
-at_own : (s : Listed) → listed (number_of s) ≡ Ok s
+at_own : (s : Listed) → numbered (number_of s) ≡ Some s
+unfolding numbered
 at_own Shaft = refl
 at_own PoetAesFour = refl
 at_own PoetAesTen = refl
 at_own Mirror = refl
 at_own ShaftPadded = refl
 
+answered : {A E : Type 0} (o : Option A) (e : E) (a : A) → ok_or o e ≡ Ok a → o ≡ Some a
+answered None e a h = let z : ◌≡◌ {A = ℕ} 0 1 = cc in absurd (omega arith)
+answered (Some b) e a h = cc
+
+found : {A E : Type 0} (o : Option A) (e : E) (a : A) → o ≡ Some a → ok_or o e ≡ Ok a
+found o e a h = ap (λ o. ok_or o e) h
+
 pub listed_numbers : NumberLaw
-listed_numbers s n = (under_own s n, λ e. ap listed e ∙ at_own s)
+listed_numbers s n = (λ e. under_own s n (answered (numbered n) _ s e), λ e. ap listed e ∙ found (numbered (number_of s)) _ s (at_own s))

@@ -1,6 +1,8 @@
 -- The list of suites: the number of each, which is listed under a number, and the functions of
 -- each.
-use Rattle.std.specs.Prelude.{◌≡◌, ℕ, List, Ok, Err, Result, ◌↔◌, ◌==◌, if◌then◌else◌}
+use Rattle.std.specs.Prelude.{◌≡◌, ℕ, List, Ok, Some, None, Option, Result, ◌↔◌, ◌==◌}
+use Rattle.std.specs.Prelude.{if◌then◌else◌}
+use Rattle.std.specs.Option.{ok_or}
 use Rattle.fault.specs.declared.kinds.KeyFault.{KeyFault}
 use Rattle.fault.specs.declared.kinds.KeyFault.TheVariants.{Suite}
 use Rattle.fault.specs.declared.kinds.Placed.{Placed}
@@ -28,15 +30,19 @@ functions_of PoetAesTen = poet_aes_ten
 functions_of Mirror = mirror
 functions_of ShaftPadded = shaft_padded
 
--- The suite with a number. One that is not listed is its own place.
+-- the suite with a number, if it is listed
+unfoldable pub numbered : ℕ → Option Listed
+numbered n =
+    if n == number_of Shaft then Some Shaft
+    else if n == number_of PoetAesFour then Some PoetAesFour
+    else if n == number_of PoetAesTen then Some PoetAesTen
+    else if n == number_of Mirror then Some Mirror
+    else if n == number_of ShaftPadded then Some ShaftPadded
+    else None
+
+-- The answer to a number: its suite, or that none has it, with the number as the place.
 abbrev pub listed : ℕ → Result Listed (Placed KeyFault)
-listed n =
-    if n == number_of Shaft then Ok Shaft
-    else if n == number_of PoetAesFour then Ok PoetAesFour
-    else if n == number_of PoetAesTen then Ok PoetAesTen
-    else if n == number_of Mirror then Ok Mirror
-    else if n == number_of ShaftPadded then Ok ShaftPadded
-    else Err (record { fault = Suite; place = n })
+listed n = ok_or (numbered n) (record { fault = Suite; place = n })
 
 -- the listed suite s is that with the number n and these functions
 abbrev pub IsSuite : (s : Listed) (n : ℕ) (under : List ℕ → Functions) → Type 0

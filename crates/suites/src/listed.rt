@@ -38,6 +38,7 @@ impl TryFrom<u8> for Listed {
 
     ghost try_from_gives = { λ n r. r ≡ listed n };
 
+    #[tactic(auto, unfolding(crate::specs::Listed::numbered))]
     fn try_from(number: u8) -> Result<Listed, Placed<KeyFault>> {
         match number {
             SHAFT => Ok(Listed::Shaft),

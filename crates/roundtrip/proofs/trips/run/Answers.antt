@@ -1,11 +1,13 @@
 use Rattle.std.proofs.Common.{refl}
 use Rattle.std.proofs.lemmas.Result.{on_ok_weaker}
+use Rattle.suites.specs.Listed.{numbered}
 use Rattle.suites.specs.Shaft.{shaft, shaft_padded}
 use Rattle.suites.specs.PoetAes.{poet_aes_four, poet_aes_ten}
 use Rattle.suites.specs.Mirror.{mirror}
 use Rattle.roundtrip.proofs.trips.run.Goals as goal
 
 pub returns : goal.returns
+unfolding numbered
 returns g c =
     on_ok_weaker c.write.result
     (λ written. (
