@@ -10,10 +10,10 @@ use Rattle.block.specs.Bytes.{Block}
 use Rattle.poet.specs.Functions.{Functions, Lawful}
 use Rattle.suites.specs.declared.listed.Listed.{Listed}
 use Rattle.suites.specs.declared.listed.Listed.TheVariants.{Shaft, PoetAesFour, PoetAesTen, Mirror}
-use Rattle.suites.specs.declared.listed.Listed.TheVariants.{ShaftPadded}
+use Rattle.suites.specs.declared.listed.Listed.TheVariants.{ShaftPadded, ShaftSpeck}
 use Rattle.suites.specs.Mirror.{mirror}
 use Rattle.suites.specs.PoetAes.{poet_aes_four, poet_aes_ten}
-use Rattle.suites.specs.Shaft.{shaft, shaft_padded}
+use Rattle.suites.specs.Shaft.{shaft, shaft_padded, shaft_speck}
 
 abbrev pub number_of : Listed → ℕ
 number_of Shaft = 1
@@ -21,6 +21,7 @@ number_of PoetAesFour = 2
 number_of PoetAesTen = 3
 number_of Mirror = 4
 number_of ShaftPadded = 5
+number_of ShaftSpeck = 6
 
 -- its functions, under each key
 abbrev pub functions_of : Listed → List ℕ → Functions
@@ -29,6 +30,7 @@ functions_of PoetAesFour = poet_aes_four
 functions_of PoetAesTen = poet_aes_ten
 functions_of Mirror = mirror
 functions_of ShaftPadded = shaft_padded
+functions_of ShaftSpeck = shaft_speck
 
 -- the suite with a number, if it is listed
 unfoldable pub numbered : ℕ → Option Listed
@@ -38,6 +40,7 @@ numbered n =
     else if n == number_of PoetAesTen then Some PoetAesTen
     else if n == number_of Mirror then Some Mirror
     else if n == number_of ShaftPadded then Some ShaftPadded
+    else if n == number_of ShaftSpeck then Some ShaftSpeck
     else None
 
 -- The answer to a number: its suite, or that none has it, with the number as the place.

@@ -3,7 +3,7 @@ ghost use Rattle.std.specs.Prelude.{◌≡◌};
 ghost use Rattle.suites.specs.Listed.{IsSuite, LawfulLaw, NumberLaw, listed};
 
 use crate::mirror::Mirror;
-use crate::shaft::{Shaft, ShaftPadded};
+use crate::shaft::{Shaft, ShaftPadded, ShaftSpeck};
 use crate::submission::{PoetAesFour, PoetAesTen};
 use fault::{KeyFault, Placed};
 use suite::Suite;
@@ -23,6 +23,9 @@ pub const MIRROR: u8 = 4;
 /// The number of the shaft suite under which every header is padded.
 pub const SHAFT_PADDED: u8 = 5;
 
+/// The number of the padded shaft suite over Speck128/128.
+pub const SHAFT_SPECK: u8 = 6;
+
 /// A listed suite.
 #[derive(Debug, PartialEq, Eq, Clone, Copy)]
 pub enum Listed {
@@ -31,6 +34,7 @@ pub enum Listed {
     PoetAesTen,
     Mirror,
     ShaftPadded,
+    ShaftSpeck,
 }
 
 impl TryFrom<u8> for Listed {
@@ -46,6 +50,7 @@ impl TryFrom<u8> for Listed {
             POET_AES_TEN => Ok(Listed::PoetAesTen),
             MIRROR => Ok(Listed::Mirror),
             SHAFT_PADDED => Ok(Listed::ShaftPadded),
+            SHAFT_SPECK => Ok(Listed::ShaftSpeck),
             _ => Err(Placed {
                 fault: KeyFault::Suite,
                 place: usize::from(number),
@@ -75,6 +80,9 @@ macro_rules! at_listed {
             $crate::Listed::ShaftPadded => {
                 $($function)::+::<$crate::ShaftPadded>($($argument),*)
             }
+            $crate::Listed::ShaftSpeck => {
+                $($function)::+::<$crate::ShaftSpeck>($($argument),*)
+            }
         }
     };
 }
@@ -92,6 +100,8 @@ pub fn listed_stands() -> u8
     ensures mirror { IsSuite Listed.Mirror ⟦<Mirror as Suite>⟧.NUMBER ⟦<Mirror as Suite>⟧.under }
     ensures shaft_padded { IsSuite Listed.ShaftPadded
         ⟦<ShaftPadded as Suite>⟧.NUMBER ⟦<ShaftPadded as Suite>⟧.under }
+    ensures shaft_speck { IsSuite Listed.ShaftSpeck
+        ⟦<ShaftSpeck as Suite>⟧.NUMBER ⟦<ShaftSpeck as Suite>⟧.under }
 {
     0
 }
