@@ -76,14 +76,15 @@ trip_text t = line (codes "suite " ++ decimal t.suite)
     ++ line (codes "the tag's last bit turned") (opening_text t.turned)))))
 
 -- The label, the message, and then the text of each suite.
-abbrev pub text_of : (a b c d e : Trip) → List ℕ
-text_of a b c d e = line (codes "label      " ++ encode_lower label)
+abbrev pub text_of : (a b c d e f : Trip) → List ℕ
+text_of a b c d e f = line (codes "label      " ++ encode_lower label)
     (line (codes "message    " ++ encode_lower message)
-    (trip_text a ++ (trip_text b ++ (trip_text c ++ (trip_text d ++ trip_text e)))))
+    (trip_text a ++ (trip_text b ++ (trip_text c
+    ++ (trip_text d ++ (trip_text e ++ trip_text f))))))
 
 -- That text was written, and nothing else.
 abbrev pub Ran : (held held' : Option (List ℕ)) → Type 0
-Ran held held' = (a : Trip) × (b : Trip) × (c : Trip) × (d : Trip) × (e : Trip)
+Ran held held' = (a : Trip) × (b : Trip) × (c : Trip) × (d : Trip) × (e : Trip) × (f : Trip)
     × TrippedUnder 1 a × TrippedUnder 2 b × TrippedUnder 3 c × TrippedUnder 4 d
-    × TrippedUnder 5 e
-    × Appends held held' (text_of a b c d e)
+    × TrippedUnder 5 e × TrippedUnder 6 f
+    × Appends held held' (text_of a b c d e f)

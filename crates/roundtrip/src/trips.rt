@@ -8,7 +8,7 @@ use fault::{Placed, SessionFault};
 use hexits::Hex;
 use std::io::Write;
 use std::{fmt, io};
-use suites::listed::{MIRROR, POET_AES_FOUR, POET_AES_TEN, SHAFT, SHAFT_PADDED};
+use suites::listed::{MIRROR, POET_AES_FOUR, POET_AES_TEN, SHAFT, SHAFT_PADDED, SHAFT_SPECK};
 
 const KEY: [u8; 16] = [0x2a; 16];
 
@@ -33,11 +33,12 @@ pub(crate) fn run<W: Write>(writer: &mut W) -> io::Result<()>
     let ten = Trip::under(POET_AES_TEN);
     let mirror = Trip::under(MIRROR);
     let padded = Trip::under(SHAFT_PADDED);
+    let speck = Trip::under(SHAFT_SPECK);
     write!(
         writer,
         "label      {label}
 message    {message}
-{shaft}{four}{ten}{mirror}{padded}"
+{shaft}{four}{ten}{mirror}{padded}{speck}"
     )
 }
 

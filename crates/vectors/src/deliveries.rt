@@ -8,7 +8,7 @@ use std::alloc::{AllocError, Global};
 use std::io;
 use std::io::Write;
 use suites::Shaft;
-use suites::listed::{MIRROR, POET_AES_FOUR, POET_AES_TEN, SHAFT, SHAFT_PADDED};
+use suites::listed::{MIRROR, POET_AES_FOUR, POET_AES_TEN, SHAFT, SHAFT_PADDED, SHAFT_SPECK};
 
 const KEY: [u8; 16] = [0x2a; 16];
 
@@ -32,13 +32,14 @@ const ENTRY: &[u8; 12] = b"\x00\x05DOORSH01\x00\x02";
 const NEEDS: &[u8; 28] = b"\x00\x15DOORSH01\x00\x01\x00\x18\x00\x15DOORSH02\x00\x01\x00\x19";
 
 // Sheets that are sealed under these suites, and accepted.
-const ACCEPTED: [(u8, &[u8]); 6] = [
+const ACCEPTED: [(u8, &[u8]); 7] = [
     (SHAFT, SHEET),
     (SHAFT, NEEDS),
     (POET_AES_FOUR, ENTRY),
     (POET_AES_TEN, ENTRY),
     (MIRROR, ENTRY),
     (SHAFT_PADDED, ENTRY),
+    (SHAFT_SPECK, ENTRY),
 ];
 
 // An entry cut short, one with an unknown bit, one without a count, one with the count 0, and a

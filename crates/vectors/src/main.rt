@@ -15,7 +15,8 @@ use std::io::Write;
 use std::{env, io};
 use suite::{Permutation, Suite};
 use suites::{
-    Aes128, KeyedHash, Keys, Mirror, PoetAesFour, PoetAesTen, Shaft, ShaftPadded, big_endian,
+    Aes128, BlockCipher, KeyedHash, Keys, Mirror, PoetAesFour, PoetAesTen, Shaft, ShaftPadded,
+    ShaftSpeck, Speck, big_endian,
 };
 
 const KEY: [u8; 16] = [0, 1, 2, 3, 4, 5, 6, 7, 8, 9, 10, 11, 12, 13, 14, 15];
@@ -48,18 +49,20 @@ fn main(rt: HostRuntime) -> anyhow::Result<()> {
 
 /// Writes the figures of every suite, and then the deliveries.
 fn run<W: Write>(alloc: Global, writer: &mut W) -> anyhow::Result<()> {
-    shaft::<Shaft, W>(writer)?;
+    shaft::<Shaft, Aes128, W>(writer)?;
     submission::<PoetAesFour, W>(writer)?;
     submission::<PoetAesTen, W>(writer)?;
     head(writer, Mirror::NUMBER)?;
     seals::<Mirror, W>(writer)?;
-    shaft::<ShaftPadded, W>(writer)?;
+    shaft::<ShaftPadded, Aes128, W>(writer)?;
+    shaft::<ShaftSpeck, Speck, W>(writer)?;
     deliveries(alloc, writer)
 }
 
-fn shaft<S: Suite, W: Write>(writer: &mut W) -> io::Result<()> {
+// The suite S is made of the cipher B.
+fn shaft<S: Suite, B: BlockCipher + Drop, W: Write>(writer: &mut W) -> io::Result<()> {
     head(writer, S::NUMBER)?;
-    let delivered = Aes128::under(KEY);
+    let delivered = B::under(KEY);
     value(writer, "K", &delivered.encrypt(big_endian(1)))?;
     value(writer, "K_F", &delivered.encrypt(big_endian(2)))?;
     seals::<S, W>(writer)

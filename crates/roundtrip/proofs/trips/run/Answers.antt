@@ -1,7 +1,7 @@
 use Rattle.std.proofs.Common.{refl}
 use Rattle.std.proofs.lemmas.Result.{on_ok_weaker}
 use Rattle.suites.specs.Listed.{numbered}
-use Rattle.suites.specs.Shaft.{shaft, shaft_padded}
+use Rattle.suites.specs.Shaft.{shaft, shaft_padded, shaft_speck}
 use Rattle.suites.specs.PoetAes.{poet_aes_four, poet_aes_ten}
 use Rattle.suites.specs.Mirror.{mirror}
 use Rattle.roundtrip.proofs.trips.run.Goals as goal
@@ -16,11 +16,13 @@ returns g c =
       c.under-ten.result,
       c.under-mirror.result,
       c.under-padded.result,
+      c.under-speck.result,
       (shaft, refl, c.under-shaft.ensures),
       (poet_aes_four, refl, c.under-four.ensures),
       (poet_aes_ten, refl, c.under-ten.ensures),
       (mirror, refl, c.under-mirror.ensures),
       (shaft_padded, refl, c.under-padded.ensures),
+      (shaft_speck, refl, c.under-speck.ensures),
       written,
     ))
     c.write.ensures.bytes
