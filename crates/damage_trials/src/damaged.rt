@@ -8,7 +8,7 @@ use std::test::Fail;
 
 const KEY: [u8; 16] = [0x2a; 16];
 
-const SUITES: [u8; 4] = [1, 2, 3, 5];
+const SUITES: [u8; 5] = [1, 2, 3, 5, 6];
 
 // The longest message.
 const LONGEST: usize = 1048576;

@@ -2,7 +2,7 @@
 //! the buffer then holds, and damage.
 use crate::samples::{SHORTEST, holds, refused};
 use crate::vectors::{
-    ENDS, FIFTEEN, FOUR_ROUNDS, KEY, LABEL, MIRROR, PADDED, SEALED, SHAFT, SHEET, TEN_ROUNDS,
+    ENDS, FIFTEEN, FOUR_ROUNDS, KEY, LABEL, MIRROR, PADDED, SEALED, SHAFT, SHEET, SPECK, TEN_ROUNDS,
 };
 use delivery::{open_sheet, seal};
 use fault::{Fault, KeyFault, SessionFault, SheetFault};
@@ -357,7 +357,7 @@ fn damage_shows(rt: &impl Abort, heap: Global, d: Delivery<'_>) -> Result<(), Fa
 
 #[test]
 fn damage_is_refused(rt: HostRuntime) -> Result<(), Fail> {
-    for d in [SHAFT, FOUR_ROUNDS, TEN_ROUNDS, PADDED] {
+    for d in [SHAFT, FOUR_ROUNDS, TEN_ROUNDS, PADDED, SPECK] {
         damage_shows(&rt, rt.alloc(), d)?;
     }
     Ok(())

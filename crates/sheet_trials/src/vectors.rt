@@ -1,5 +1,5 @@
 //! Seals of sheets under each listed suite by another program, which was written from the equations
-//! over another implementation of AES-128.
+//! over other implementations of AES-128 and Speck128/128.
 use wire::Delivery;
 
 pub(crate) const KEY: &'static [u8; 16] = b"sixteen new keys";
@@ -72,8 +72,27 @@ pub(crate) const PADDED: Delivery<'static> = Delivery {
     tag: b"\x74\xc2\x6c\xdf\x30\xca\xf9\x16\x92\x05\xc6\x83\xb9\x58\xea\x2b",
 };
 
+pub(crate) const SPECK: Delivery<'static> = Delivery {
+    suite: 6,
+    key: KEY,
+    header: LABEL,
+    ciphertext: b"\
+        \x8f\xa2\x67\x15\x08\xa6\xb4\x7e\x79\x90\x51\x58\x85\x00\x50\x30\xe4\x42\xe5\x3d\x05\
+        \xc7\x65\xd5\x8f\x67\xe8\x28\x8b\xa8\x44\x59\x06\x8d\x96\x85\x4d\xfa\x06\x9e\x5b\xb2\
+        \x6d\xcf\xc8\xe4\x9d\x21\xd4\xbf\x55\x36\xe3\x7e\xf8\x42\xcb\xd7\x85\xc5\x31\xac\x9f\
+        \xd9\x15\x99\xcb\xfd\x46\x88\x23\xa4\x6c\x15\x0d\xf1\xfd\xdc\x5a\xa2\xfa\xe2\x2b\xf4",
+    tag: b"\x1e\x0b\x94\x76\x27\xd5\x6d\xa2\x0b\xc5\x60\x58\x74\x3b\x5d\x72",
+};
+
 // The sheet sealed under every suite.
-pub(crate) const SEALED: [Delivery<'static>; 5] = [SHAFT, FOUR_ROUNDS, TEN_ROUNDS, MIRROR, PADDED];
+pub(crate) const SEALED: [Delivery<'static>; 6] = [
+    SHAFT,
+    FOUR_ROUNDS,
+    TEN_ROUNDS,
+    MIRROR,
+    PADDED,
+    SPECK,
+];
 
 // With a header of fifteen bytes. Under suite 5 it has the same seal.
 pub(crate) const FIFTEEN: Delivery<'static> = Delivery {
@@ -104,7 +123,7 @@ const SHAFT_ENDS: Ends = Ends {
 };
 
 // The label is not of whole blocks, so suites 1 and 5 fill it alike.
-pub(crate) const ENDS: [Ends; 5] = [
+pub(crate) const ENDS: [Ends; 6] = [
     SHAFT_ENDS,
     Ends {
         suite: 2,
@@ -127,5 +146,11 @@ pub(crate) const ENDS: [Ends; 5] = [
     Ends {
         suite: 5,
         ..SHAFT_ENDS
+    },
+    Ends {
+        suite: 6,
+        first: *b"\x2a\x30\x0b\x41\xfc\x96\x68\xa2\x24\x98\x60\xe2\xf9\x2c\x6c\xcb",
+        last: *b"\x10\x07\x2d\x53\x83\x80\x38\x6f\xb1\x29\x3e\x25\x57\xf2\x5e\x57",
+        tag: *b"\x02\xae\x74\x56\x09\x2c\xaf\x75\xdb\x3b\x7c\x88\xf6\x62\x61\x71",
     },
 ];

@@ -1,6 +1,6 @@
-//! Suites 1, 2, 3 and 5 against another program at many lengths: messages of 1 to 100 bytes under
-//! headers of 0 to 66, each sealed under a key that comes of all that was sealed before, and opened
-//! again.
+//! Every listed suite but the mirror against another program at many lengths: messages of 1 to 100
+//! bytes under headers of 0 to 66, each sealed under a key that comes of all that was sealed
+//! before, and opened again.
 //!
 //! The expected values are those that `tools/seals.py` prints, which shares no code with the
 //! crates.
@@ -14,7 +14,7 @@ use std::test::Fail;
 pub(crate) const KEY: [u8; 16] = [0, 1, 2, 3, 4, 5, 6, 7, 8, 9, 10, 11, 12, 13, 14, 15];
 
 // A suite, and the key after a hundred seals.
-const LAST_KEYS: [(u8, [u8; 16]); 4] = [
+const LAST_KEYS: [(u8, [u8; 16]); 5] = [
     (
         1,
         *b"\xf4\x06\x8e\x22\xe8\x26\x1b\x77\x18\x25\x25\x76\x08\xea\xef\x07",
@@ -30,6 +30,10 @@ const LAST_KEYS: [(u8, [u8; 16]); 4] = [
     (
         5,
         *b"\x4d\x27\x38\xe9\x0d\x48\xb5\xdb\x28\x8c\x3e\xf5\x3e\xfe\x75\x8c",
+    ),
+    (
+        6,
+        *b"\xff\xdc\xd4\xf8\xf5\xbb\x9d\xb1\x20\xba\x3a\xd0\xf5\x5e\xb1\x9f",
     ),
 ];
 

@@ -35,7 +35,7 @@ fn both_refuse(rt: &impl Abort, suite: u8, key: &[u8], body: &[u8], tag: &[u8], 
 
 #[test]
 fn unlisted_numbers(rt: HostRuntime) -> Result<(), Fail> {
-    for suite in [0, 6, 9, 255] {
+    for suite in [0, 7, 9, 255] {
         for (key, body, tag, what) in PARTS {
             both_refuse(&rt, suite, key, body, tag, what);
         }
