@@ -52,6 +52,18 @@ impl<const N: usize> Buffer<N> {
         Some(self.bytes)
     }
 
+    /// Puts one byte behind the others, if there is room.
+    pub fn push(&mut self, b: u8)
+        ensures { self.new ≡ take N (self.old ++ b ∷ []) }
+    {
+        let at = self.len;
+        if at == N {
+            return;
+        }
+        self.bytes[at] = b;
+        self.len = at + 1;
+    }
+
     /// Puts bytes behind the others, as many as there is room for.
     pub fn extend(&mut self, s: &[u8])
         ensures { self.new ≡ take N (self.old ++ s.now) }

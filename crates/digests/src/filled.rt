@@ -49,11 +49,11 @@ impl<D: BlockDigest + Drop, G: Filling> Filled<D, G> {
             ≡ ⟦<Filled<D, G> as HeaderDigest>⟧.rule self.old (b ∷ r) }
     {
         match self.held.full() {
-            None => self.held.extend(&[b]),
+            None => self.held.push(b),
             Some(block) => {
                 self.digest.take(block);
                 self.held = Buffer::new();
-                self.held.extend(&[b]);
+                self.held.push(b);
             }
         }
     }

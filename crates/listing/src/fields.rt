@@ -46,7 +46,7 @@ impl Shown for i8 {
 
     fn put(self, line: &mut Line) {
         if self < 0 {
-            line.extend(b"-");
+            line.push(b'-');
         }
         put_decimal(line, u32::from(self.unsigned_abs()));
     }
@@ -61,7 +61,7 @@ fn put_decimal(line: &mut Line, n: u32)
         put_decimal(line, n / 10);
     }
     // A digit fits; `try_from` would add a refusal that cannot come.
-    line.extend(&[b'0' + (n % 10) as u8]);
+    line.push(b'0' + (n % 10) as u8);
 }
 
 // A field, or a dash where there is none, and the byte that ends it.
@@ -70,7 +70,7 @@ pub(crate) fn put_field<T: Shown>(line: &mut Line, field: Option<T>, stop: u8)
 {
     match field {
         Some(value) => value.put(line),
-        None => line.extend(b"-"),
+        None => line.push(b'-'),
     }
-    line.extend(&[stop]);
+    line.push(stop);
 }

@@ -30,7 +30,7 @@ fn encode(e: Entry<&[u8]>) -> Buffer<ENTRY_LIMIT>
     }
     out.extend(&e.count.to_be_bytes());
     if let Some(landing) = e.landing {
-        out.extend(&[landing.cast_unsigned()]);
+        out.push(landing.cast_unsigned());
     }
     if let Some(months) = e.months {
         out.extend(&months.to_be_bytes());
@@ -48,7 +48,7 @@ fn put_drawing(out: &mut Buffer<ENTRY_LIMIT>, drawing: Option<&[u8]>)
     if let Some(drawing) = drawing {
         // A drawing of good form has at most 32 bytes; `try_from` would add a refusal that cannot
         // come.
-        out.extend(&[drawing.len() as u8]);
+        out.push(drawing.len() as u8);
         out.extend(drawing);
     }
 }

@@ -43,12 +43,12 @@ impl<P: Permutation + Drop> Older<P> {
             ≡ ⟦<Older<P> as HeaderDigest>⟧.rule self.old (b ∷ r) }
     {
         match self.held.full() {
-            None => self.held.extend(&[b]),
+            None => self.held.push(b),
             Some(block) => {
                 self.sum = xor(self.sum, self.permutation.encrypt(xor(block, self.mask)));
                 self.mask = double(self.mask);
                 self.held = Buffer::new();
-                self.held.extend(&[b]);
+                self.held.push(b);
             }
         }
     }

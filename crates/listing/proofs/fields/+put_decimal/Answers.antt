@@ -11,9 +11,9 @@ returns t c =
     elim c.if-n-ge10.branch [
       | then-n-ge10 w ↦
           let step = decimal_step n w.if-n-ge10.true (omega arith) in
-          twice 70 _ _ _ _ _ (w.line-is ∙ w.put_decimal.ensures) c.extend.ensures ∙ ap (λ (x : List ℕ). take 70 (line ++ x)) (sym step)
+          twice 70 _ _ _ _ _ (w.line-is ∙ w.put_decimal.ensures) c.push.ensures ∙ ap (λ (x : List ℕ). take 70 (line ++ x)) (sym step)
       | else-n-ge10 w ↦
           let digit = decimal_digit n (omega arith) in
           let same : 48 + n % 10 ≡ 48 + n = omega arith in
-          c.extend.ensures ∙ ap (λ (x : List ℕ). take 70 (x ++ ((48 + n % 10) ∷ []))) w.line-is ∙ ap (λ (d : ℕ). take 70 (line ++ (d ∷ []))) same ∙ ap (λ (x : List ℕ). take 70 (line ++ x)) (sym digit)
+          c.push.ensures ∙ ap (λ (x : List ℕ). take 70 (x ++ ((48 + n % 10) ∷ []))) w.line-is ∙ ap (λ (d : ℕ). take 70 (line ++ (d ∷ []))) same ∙ ap (λ (x : List ℕ). take 70 (line ++ x)) (sym digit)
     ]

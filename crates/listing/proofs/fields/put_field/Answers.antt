@@ -9,4 +9,4 @@ returns g c =
     let p : c.match-field.line ≡ take 70 (c.args.line.now ++ shown g.T.Shown.text c.args.field) =
     elim c.match-field.branch [ in-Some w ↦ search rules | in-None w ↦ search rules ]
     in
-    twice 70 _ _ _ _ _ p c.extend-2.ensures
+    twice 70 _ _ _ _ _ p c.push-2.ensures

@@ -20,7 +20,7 @@ returns c =
     ] in
     let count : Filled 56 c.extend-3.new.self (((m ++ e.code) ++ held text e.parent) ++ two e.count) = filled_more _ _ parent (c.extend-3.ensures ∙ ap (λ (x : List ℕ). take 56 (c.match-e.out ++ x)) c.to_be_bytes-2.ensures) in
     let landing : Filled 56 c.match-e-2.out ((((m ++ e.code) ++ held text e.parent) ++ two e.count) ++ held one e.landing) = elim c.match-e-2.branch [
-      | in-Some-landing w ↦ filled_some one e.landing _ _ count w.in-Some-landing.is (w.out-is ∙ w.extend-in-Some-landing.ensures ∙ ap (λ (x : ℕ). take 56 (c.extend-3.new.self ++ (x ∷ []))) (search rules))
+      | in-Some-landing w ↦ filled_some one e.landing _ _ count w.in-Some-landing.is (w.out-is ∙ w.push.ensures ∙ ap (λ (x : ℕ). take 56 (c.extend-3.new.self ++ (x ∷ []))) (search rules))
       | in_default-landing w ↦ filled_none one e.landing _ count w.in_default-landing.is w.out-is
     ] in
     let months : Filled 56 c.match-e-3.out (((((m ++ e.code) ++ held text e.parent) ++ two e.count) ++ held one e.landing) ++ held two e.months) = elim c.match-e-3.branch [

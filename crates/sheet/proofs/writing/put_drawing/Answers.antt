@@ -10,7 +10,7 @@ pub returns-in-Some : goal.returns-in-Some
 returns-in-Some c all h =
     let s = c.in-Some.drawing.now in
     let before : Filled 56 c.args.out.now all = record { is = h } in
-    let put = twice 56 c.args.out.now (length s ∷ []) s _ _ (search rules) c.extend-in-Some.ensures in
+    let put = twice 56 c.args.out.now (length s ∷ []) s _ _ (search rules) c.extend.ensures in
     (filled_some counted (lent c.args.drawing) s _ before (ap lent c.in-Some.is) put).is
 
 pub returns-in_default : goal.returns-in_default

@@ -22,7 +22,7 @@ returns c =
     let abs = c.from.ensures ∙ c.unsigned_abs.ensures.value in
     elim c.if-self-lt0.branch [
       | then-self-lt0 w ↦
-          twice 70 _ _ _ _ _ (w.line-is ∙ w.extend.ensures) c.put_decimal.ensures
+          twice 70 _ _ _ _ _ (w.line-is ∙ w.push.ensures) c.put_decimal.ensures
           ∙ ap (λ (x : List ℕ). take 70 (line ++ x)) (ap (λ n. 45 ∷ decimal n) abs ∙ below _ w.if-self-lt0.true ∙ same)
       | else-self-lt0 w ↦
           c.put_decimal.ensures ∙ ap (λ (x : List ℕ). take 70 (x ++ decimal c.from.result)) w.line-is
