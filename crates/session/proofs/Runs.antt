@@ -1,9 +1,9 @@
 -- Rows that are run one after another, each block written where it belongs.
-use Rattle.std.proofs.Common.{◌≡◌, ℕ, ◌+◌, ◌*◌, ◌≤◌, List, ◌++◌, length, take, drop, replicate, sym, refl, ap, ◌∙◌, add-one, arith}
+use Rattle.std.proofs.Common.{◌≡◌, ℕ, ◌+◌, ◌*◌, ◌≤◌, List, ◌++◌, length, take, drop, sym, refl, subst, ap, ◌∙◌, add-one, arith}
 use borrow.Rule.Slice.PartMut.{put_mid}
 use Rattle.std.proofs.lemmas.Slice.{take-put_mid, drop-put_mid}
 use Rattle.std.proofs.Math.Seq.{drop-append-add}
-use Rattle.std.proofs.lemmas.List.{drop-drop, take_at, length-drop, length-take-le, length-append}
+use Rattle.std.proofs.lemmas.List.{drop-drop, length-drop, length-append}
 use Rattle.block.specs.Bytes.{block}
 use Rattle.poet.specs.Rows.{State, takes, gives, next, rows}
 use Rattle.session.specs.declared.rows.Lanes.{Lanes}
@@ -12,6 +12,9 @@ use Rattle.session.specs.Steps.{lanes, Stepped, Ran}
 pub ran_none : (e c : List ℕ → List ℕ) (s : Lanes) (a o : List ℕ) → Ran e c s a o 0 s o
 unfolding rows
 ran_none e c s a o = record { x_is = refl; y_is = refl; front = refl; rest = refl }
+
+pub ran_zero : (e c : List ℕ → List ℕ) (s : Lanes) (a o : List ℕ) (n : ℕ) → n ≡ 0 → Ran e c s a o n s o
+ran_zero e c s a o n z = subst (λ k. Ran e c s a o k s o) (sym z) (ran_none e c s a o)
 
 -- one row more: b is the block, and w, which comes of it, is written at 16 * n
 pub ran_more : (e c : List ℕ → List ℕ) (s : Lanes) (a o : List ℕ) (n : ℕ) (s' : Lanes) (o' : List ℕ) → Ran e c s a o n s' o' → (b : List ℕ) (s'' : Lanes) (g w : List ℕ) (k : ℕ) → Stepped e c s' b s'' g → b ≡ block n a → w ≡ g → k ≡ 16 → length w ≡ 16
@@ -42,10 +45,9 @@ more_fits a h i n e room = omega (arith, length-append h i, ap length e, length-
 
 -- One block more: h is held and i comes behind it, and both are what n blocks leave of a. Filled up from i, h is the next block, and the
 -- rest of i is what is left then.
-pub block_next : (a h i b : List ℕ) (n k : ℕ) → h ++ i ≡ drop (16 * n) a → k + length h ≡ 16 → 16 * (n + 1) ≤ length a → b ≡ take 16 (h ++ i) → (take 16 (b ++ replicate 16 0) ≡ block n a) × (drop k i ≡ drop (16 * (n + 1)) a)
-block_next a h i b n k e ke room be =
-    let l : length b ≡ 16 = ap length be ∙ length-take-le 16 (h ++ i) (omega (arith, length-append h i, more_fits a h i n e room)) in
+pub block_next : (a h i : List ℕ) (n k : ℕ) → h ++ i ≡ drop (16 * n) a → k + length h ≡ 16 → (take 16 (h ++ i) ≡ block n a) × (drop k i ≡ drop (16 * (n + 1)) a)
+block_next a h i n k e ke =
     let m : 16 * n + 16 ≡ 16 * (n + 1) = omega arith in (
-      take_at b (replicate 16 0) 16 l ∙ be ∙ ap (take 16) e,
+      ap (take 16) e,
       sym (drop-append-add h i k) ∙ ap (λ j. drop j (h ++ i)) (let j : length h + k ≡ 16 = omega arith in j) ∙ ap (drop 16) e ∙ drop-drop 16 (16 * n) a ∙ ap (λ j. drop j a) m,
     )

@@ -9,8 +9,9 @@ ghost use Rattle.session.specs.Directions.{picks};
 ghost use Rattle.session.specs.Engines.{EngineAt};
 ghost use Rattle.session.specs.Steps.{Ended, Ran, Stepped};
 
+use crate::blocks::next_block;
 use crate::rows::{Lanes, Way};
-use block::{complete, xor};
+use block::xor;
 use buffer::Buffer;
 use suite::{ChainingHash, Permutation, Suite};
 
@@ -85,6 +86,10 @@ impl<S: Suite> Engine<S> {
             lanes (held.old ++ input.now) out.old n result out.new }
         ensures left { held.new ≡ take 16 (drop (16 * n) (held.old ++ input.now)) }
     {
+        if n == 0 {
+            held.extend(input);
+            return lanes;
+        }
         let mut lanes = lanes;
         let mut input = input;
         let mut hashed = self.hash.hash(lanes.taking);
@@ -92,10 +97,8 @@ impl<S: Suite> Engine<S> {
         // its bytes.
         for i in 0..n {
             let more = 16 - held.as_slice().len();
-            held.extend(input);
+            let block = next_block(held, input);
             input = &input[more..];
-            let block = complete(held.as_slice(), &[0; 16]);
-            *held = Buffer::new();
             let (next, given, further) = self.row::<W>(lanes, hashed, block);
             lanes = next;
             hashed = further;
