@@ -76,6 +76,13 @@ Judged input o' (Ok n) =
     × (n ≤ length o') × (take n o' ≡ sheet_of es)
 Judged input o' (Err f) = ((es : List Item) → Delivers input es → ⊥) × RefusedInput input f
 
+-- What listing an input answers: the first n bytes of the text are the lines of the list that it
+-- delivers; or why it is refused, and then it delivers no list.
+abbrev pub Listed : (input text : List ℕ) → Result ℕ (Placed ConsoleFault) → Type 0
+Listed input text (Ok n) =
+    (es : List Item) × DeliversOnly input es × (take n text ≡ list_of es)
+Listed input text (Err f) = ((es : List Item) → Delivers input es → ⊥) × RefusedInput input f
+
 -- the line of a refusal
 abbrev pub refusal_line : Placed ConsoleFault → List ℕ
 refusal_line f = codes "refused " ++ (decimal (console_number f.fault) ++ 10 ∷ [])

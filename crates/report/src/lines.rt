@@ -1,45 +1,33 @@
 //! The lines of a sheet that was tested.
-ghost use Rattle.std.specs.Prelude.{◌≡◌, List};
-ghost use Rattle.sheet.specs.Entries.{AllGood, Good, Item, item_of, sheet_of};
-ghost use Rattle.streams.specs.Streams.{Wrote};
-ghost use Rattle.listing.specs.Lines.{line_of};
+ghost use Rattle.std.specs.Prelude.{◌≡◌, ◌≤◌, List, ◌++◌, length, drop};
+ghost use Rattle.std.specs.Result.{IsOkAnd};
+ghost use Rattle.sheet.specs.Entries.{AllGood, Item, sheet_of};
 ghost use Rattle.report.specs.Lists.{list_of};
 
+use fault::{Placed, SheetFault};
 use listing::{LINE_LIMIT, line};
-use sheet::{Entry, Reader};
-use std::io;
-use std::io::{Error, ErrorKind, Write};
-use streams::put;
+use sheet::Reader;
+use wire::CIPHERTEXT_LIMIT;
 
-// Every entry of the sheet was tested, so that none is refused here.
-fn untested() -> Error {
-    Error::from(ErrorKind::InvalidData)
-}
+// The fewest bytes that an entry of a sheet has: its map, its code and its count.
+const ENTRY_LEAST: usize = 12;
 
-// Writes the line of an entry.
-fn write_line<W: Write>(output: &mut W, entry: Entry<&[u8]>) -> io::Result<()>
-    ensures { Good (item_of entry.entry)
-        → Wrote (W.contents output.old) (W.contents output.new)
-        (line_of (item_of entry.entry)) result }
-{
-    let mut row = [0; LINE_LIMIT];
-    match line(entry, &mut row, 0) {
-        Ok(end) => put(output, &row[..end]),
-        Err(_) => Err(untested()),
-    }
-}
+/// The most bytes that the list of a delivery has: a line for each entry that its sheet has room
+/// for.
+pub const LIST_LIMIT: usize = LINE_LIMIT * (CIPHERTEXT_LIMIT / ENTRY_LEAST);
 
-// Writes the lines of all entries of a sheet.
-pub(crate) fn write_lines<W: Write>(output: &mut W, sheet: &[u8]) -> io::Result<()>
+// Puts the lines of all entries of a sheet into the front of a text, and answers how many bytes they
+// are. No entry of a good sheet is refused, and where the text has room for them no line is.
+pub(crate) fn put_lines(sheet: &[u8], text: &mut [u8]) -> Result<usize, Placed<SheetFault>>
     ensures { (es : List Item) → AllGood es → sheet.now ≡ sheet_of es
-        → Wrote (W.contents output.old) (W.contents output.new) (list_of es) result }
+        → length (list_of es) ≤ length text.old
+        → IsOkAnd result (λ n. (n ≡ length (list_of es))
+        × (text.new ≡ list_of es ++ drop n text.old)) }
 {
     let mut reader = Reader::new(sheet);
-    loop {
-        match reader.next() {
-            Ok(Some(entry)) => write_line(output, entry)?,
-            Ok(None) => return Ok(()),
-            Err(_) => return Err(untested()),
-        }
+    let mut at = 0;
+    while let Some(entry) = reader.next()? {
+        at = line(entry, text, at)?;
     }
+    Ok(at)
 }

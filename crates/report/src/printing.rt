@@ -1,10 +1,10 @@
 //! From an input to what is printed for it.
-ghost use Rattle.std.specs.Prelude.{◌≤◌, ℕ, List, length};
+ghost use Rattle.std.specs.Prelude.{◌≡◌, ◌≤◌, ℕ, List, length, drop, IfOk, OnErr};
 ghost use Rattle.streams.specs.Streams.{Wrote};
-ghost use Rattle.report.specs.Report.{Judged, Printed, PrintedLaw};
+ghost use Rattle.report.specs.Report.{Judged, Listed, Printed, PrintedLaw};
 ghost use Rattle.report.specs.Runs.{Ran};
 
-use crate::lines::write_lines;
+use crate::lines::{LIST_LIMIT, put_lines};
 use crate::refusals::line_of;
 use delivery::open_sheet;
 use fault::{ConsoleFault, Placed};
@@ -24,6 +24,26 @@ fn judge(input: &[u8], opened: &mut [u8]) -> Result<usize, Placed<ConsoleFault>>
     Ok(delivery.ciphertext.len())
 }
 
+/// Puts the lines of the list that the input delivers into the front of `text`, and answers how many
+/// bytes they are. There is always room.
+///
+/// # Errors
+///
+/// Why the input delivers no list: 1 if it is no delivery, 2 if no suite has its number, 7 if its
+/// ciphertext is empty, 9 if it is no genuine seal, and 10 to 13 if what was sealed is no sheet.
+/// `text` is then as it was.
+pub fn list(input: &[u8], text: &mut [u8; LIST_LIMIT]) -> Result<usize, Placed<ConsoleFault>>
+    ensures answer { Listed input.now text.new result }
+    ensures within { IfOk result (λ n. n ≤ LIST_LIMIT) }
+    ensures rest { IfOk result (λ n. drop n text.new ≡ drop n text.old) }
+    ensures refused { OnErr result (text.new ≡ text.old) }
+{
+    let mut opened = [0; CIPHERTEXT_LIMIT];
+    let len = judge(input, &mut opened)?;
+    let len = put_lines(&opened[..len], text)?;
+    Ok(len)
+}
+
 /// Writes the lines of the list that the input delivers, or the line of its refusal. Nothing is
 /// written before the whole sheet is judged.
 ///
@@ -34,9 +54,9 @@ pub fn print<W: Write>(input: &[u8], output: &mut W) -> io::Result<()>
     ensures { (text : List ℕ) × Printed input.now text
         × Wrote (W.contents output.old) (W.contents output.new) text result }
 {
-    let mut opened = [0; CIPHERTEXT_LIMIT];
-    match judge(input, &mut opened) {
-        Ok(len) => write_lines(output, &opened[..len]),
+    let mut text = [0; LIST_LIMIT];
+    match list(input, &mut text) {
+        Ok(len) => put(output, &text[..len]),
         Err(refused) => put(output, line_of(refused).as_slice()),
     }
 }
