@@ -16,8 +16,8 @@ const ENTRY_LEAST: usize = 12;
 /// for.
 pub const LIST_LIMIT: usize = LINE_LIMIT * (CIPHERTEXT_LIMIT / ENTRY_LEAST);
 
-// Puts the lines of all entries of a sheet into the front of a text, and answers how many bytes they
-// are. No entry of a good sheet is refused, and where the text has room for them no line is.
+// Puts the lines of all entries of a sheet into the front of a text, and answers how many bytes
+// they are. No entry of a good sheet is refused, nor a line where the text has room for all.
 pub(crate) fn put_lines(sheet: &[u8], text: &mut [u8]) -> Result<usize, Placed<SheetFault>>
     ensures { (es : List Item) → AllGood es → sheet.now ≡ sheet_of es
         → length (list_of es) ≤ length text.old

@@ -24,8 +24,8 @@ fn judge(input: &[u8], opened: &mut [u8]) -> Result<usize, Placed<ConsoleFault>>
     Ok(delivery.ciphertext.len())
 }
 
-/// Puts the lines of the list that the input delivers into the front of `text`, and answers how many
-/// bytes they are. There is always room.
+/// Puts the lines of the list that the input delivers into the front of `text`, and answers how
+/// many bytes they are. There is always room.
 ///
 /// # Errors
 ///
