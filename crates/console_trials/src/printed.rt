@@ -1,8 +1,11 @@
-//! A run over bytes in memory, and what it then wrote.
+//! A run over bytes in memory, and what it then wrote; and the list alone.
 use delivery::seal;
-use report::run;
+use fault::{ConsoleFault, Placed};
+use report::{LIST_LIMIT, list, run};
 use sheet::{Entry, write};
 use std::alloc::Global;
+use std::io;
+use std::io::Write;
 use std::process::Abort;
 use std::test::Fail;
 
@@ -93,6 +96,59 @@ fn shortest_inputs(rt: HostRuntime) -> Result<(), Fail> {
     let heap = rt.alloc();
     prints(&rt, heap, b"", b"refused 1\n", 0)?;
     prints(&rt, heap, b"\x04", b"refused 1\n", 0)
+}
+
+// A writer that counts how often it is called.
+#[derive(Drop)]
+struct Counted {
+    written: Vec<u8>,
+    writes: usize,
+}
+
+impl Write for Counted {
+    fn write(&mut self, bytes: &[u8]) -> io::Result<usize> {
+        self.writes = self.writes.saturating_add(1);
+        self.written.extend_from_slice(bytes)?;
+        Ok(bytes.len())
+    }
+
+    fn flush(&mut self) -> io::Result<()> {
+        Ok(())
+    }
+}
+
+// The longest list, of 1,365 lines, is one write.
+#[test]
+fn one_write(rt: HostRuntime) -> Result<(), Fail> {
+    let heap = rt.alloc();
+    let input = longest(heap)?;
+    let text = lines(heap)?;
+    let mut rest: &[u8] = &input;
+    let mut writer = Counted {
+        written: Vec::new(heap),
+        writes: 0,
+    };
+    run(&mut rest, &mut writer)?;
+    assert_eq!(rt; writer.writes, 1);
+    assert!(rt; writer.written.as_slice() == text.as_bytes(), "other text");
+    Ok(())
+}
+
+// The longest list in an array, and the place of a refusal.
+#[test]
+fn longest_list(rt: HostRuntime) -> Result<(), Fail> {
+    let heap = rt.alloc();
+    let mut input = longest(heap)?;
+    let mut text = [0; LIST_LIMIT];
+    let len = list(&input, &mut text)?;
+    assert!(rt; &text[..len] == lines(heap)?.as_bytes(), "other lines");
+    input.push(0)?;
+    let refused = Placed {
+        fault: ConsoleFault::Input,
+        place: 20520,
+    };
+    assert!(rt; list(&input, &mut text) == Err(refused), "other refusal");
+    Ok(())
 }
 
 // A writer that has room for fewer bytes than the text has gets its first bytes, and the run fails.
