@@ -10,5 +10,6 @@ mod answers;
 mod opening;
 mod script;
 
+pub use answers::answer;
 pub use opening::{play, play_as};
 pub use script::{Ask, Call, Played, Reply};

@@ -1,17 +1,21 @@
 //! The calls under the suite, each with the promise that it makes under every suite. None needs a
 //! proof: the call alone gives it.
-ghost use Rattle.delivery.specs.Sheets.{SheetOpened, SheetSeals};
+ghost use Rattle.delivery.specs.Sheets.{SheetOpened, SheetRefused, SheetSeals, lifted};
+ghost use Rattle.fault.specs.Refusals.{Refusal, Refuses, sheet_faults};
+ghost use Rattle.fault.specs.declared.kinds.SessionFault.{SessionFault};
 ghost use Rattle.poet.specs.Seal.{Seals};
 ghost use Rattle.reading.specs.Replies.{AllAnswered};
 ghost use Rattle.script.specs.Plays.{CoursePlayed};
+ghost use Rattle.session.specs.Calls.{open_checks};
 ghost use Rattle.sheet.specs.Entries.{Item};
-ghost use Rattle.std.specs.Prelude.{◌≡◌, ◌≤◌, ◌↔◌, ℕ, List, length, take, IfOk, IsOk};
+ghost use Rattle.std.specs.Prelude.{◌≡◌, ◌≤◌, ◌↔◌, ℕ, List, length, take, Some, None};
+ghost use Rattle.std.specs.Prelude.{IfErr, IfOk, IsOk};
 ghost use Rattle.trial_forms.specs.Flipped.{flipped};
 
 use crate::flipped::Flipped;
 use delivery::open_sheet_as;
 use fault::{Placed, SessionFault, SheetFault};
-use reading::{Call, play_as};
+use reading::{Ask, Call, answer, play_as};
 use script::{Course, End, Played, Stretch, play};
 use session::KeyPlace;
 use std::alloc::{AllocError, Global};
@@ -98,4 +102,32 @@ pub fn play_reader<'a>(
         → AllAnswered out.entry.ref_ptr es calls.old calls.new) }
 {
     play_as::<Flipped>(key, header, ciphertext, tag, out, calls)
+}
+
+/// A sheet, opened and then read: once the replies are let go, the caller knows what the buffer
+/// holds, accepted or refused.
+pub fn open_and_read(
+    key: &[u8],
+    header: &[u8],
+    ciphertext: &[u8],
+    tag: &[u8],
+    out: &mut [u8],
+) -> Result<usize, Placed<SheetFault>>
+    ensures entries { IfOk result (λ n. (es : List Item)
+        × SheetOpened (flipped key.now) header.now ciphertext.now tag.now out.old out.new es
+        × (n ≡ length es)) }
+    ensures refused { (e : Refusal SessionFault)
+        → open_checks key.now header.now ciphertext.now tag.now out.old ≡ Some e
+        → Refuses sheet_faults (lifted e) result × (out.new ≡ out.old) }
+    ensures broken { open_checks key.now header.now ciphertext.now tag.now out.old ≡ None
+        → IfErr result (SheetRefused (flipped key.now)
+        header.now ciphertext.now tag.now out.old out.new) }
+{
+    let count = open_sheet_as::<Flipped>(key, header, ciphertext, tag, out)?;
+    let mut calls = [Call {
+        ask: Ask::Next,
+        reply: None,
+    }];
+    answer(&out[..ciphertext.len()], &mut calls);
+    Ok(count)
 }

@@ -1,5 +1,5 @@
 //! One sheet sealed under the suite, opened and read.
-use crate::promised::{open, open_sheet, play_reader, seal};
+use crate::promised::{open, open_and_read, open_sheet, play_reader, seal};
 use reading::{Ask, Call, Reply};
 use std::process::Abort;
 use std::test::Fail;
@@ -29,6 +29,12 @@ fn seals_opens_and_reads(rt: HostRuntime) -> Result<(), Fail> {
     let [first, second] = calls;
     assert!(rt; matches!(first.reply, Some(Reply::Next(Ok(Some(_))))));
     assert!(rt; matches!(second.reply, Some(Reply::Next(Ok(None)))));
+    let mut kept = [0; 12];
+    assert_eq!(rt;
+        open_and_read(&KEY, b"lift 7", &sealed, &tag, &mut kept)?,
+        1
+    );
+    assert_eq!(rt; kept, SHEET);
     tag[0] ^= 1;
     assert!(rt; open_sheet(&KEY, b"lift 7", &sealed, &tag, &mut out).is_err());
     Ok(())

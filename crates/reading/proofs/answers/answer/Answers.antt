@@ -3,7 +3,7 @@ use Rattle.sheet.specs.Entries.{sheet_of}
 use Rattle.reading.specs.Replies.{Answered, asks_of, replies_of}
 use Rattle.std.proofs.Math.Seq.{map-set_same}
 use Rattle.reading.specs.declared.script.Call.{Call}
-use Rattle.reading.proofs.Replying.{one_more, no_more}
+use Rattle.reading.proofs.Replying.{one_more, no_more, all_answered}
 use Rattle.reading.proofs.answers.answer.Goals as goal
 
 pub loop-call-preserved : goal.loop-call-preserved
@@ -15,10 +15,11 @@ loop-call-preserved c =
       λ es g e. one_more l.reader c.reply.new.reader c.args.calls.now l.calls l.call-index _ c.reply.result es (omega arith) asks refl c.reply.ensures (sofar es g e),
     )
 
-pub returns-clause-replies : goal.returns-clause-replies
-returns-clause-replies c es g e =
+pub returns-clause-answered : goal.returns-clause-answered
+returns-clause-answered c es g e =
     let l = c.loop-call in
     let (same, asks, sofar) = l.invariant in
     let sheet : l.reader.sheet ≡ c.args.sheet = same ∙ c.new-reader.ensures.0 in
     let first : c.new-reader.result.sheet.now ≡ sheet_of es = ap (λ (x : Bor (List ℕ)). x.now) c.new-reader.ensures.0 ∙ e in
-    subst (λ (x : Bor (List ℕ)). Answered x.ref_ptr 0 None es (asks_of c.args.calls.now) (replies_of l.calls)) sheet (no_more l.reader c.args.calls.now l.calls l.call-index es (omega arith) asks (sofar es g first))
+    let each = no_more l.reader c.args.calls.now l.calls l.call-index es (omega arith) asks (sofar es g first) in
+    all_answered c.args.sheet.ref_ptr es c.args.calls.now l.calls asks (subst (λ (x : Bor (List ℕ)). Answered x.ref_ptr 0 None es (asks_of c.args.calls.now) (replies_of l.calls)) sheet each)
