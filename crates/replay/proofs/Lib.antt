@@ -1,4 +1,7 @@
 mod Numbers
 mod Keyed
-mod Encoded
+mod Cuts
+mod Through
+mod Utf8
+mod Writes
 mod Reading

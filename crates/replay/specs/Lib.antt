@@ -4,3 +4,4 @@ pub mod Texts
 pub mod Outcomes
 pub mod Runs
 pub mod Sessions
+pub mod Utf8

@@ -29,11 +29,11 @@ pub data Said : Type 0 where
   BodyCall : Brought → Said
   FinishCall : List ℕ → Said
 
--- A step, and then another if the first broke no rule.
+-- A step, and then another if the first did not fail.
 infixl 10 ◌>>=◌
-abbrev pub ◌>>=◌ : {A B : Type 0} → Result A Rule → (A → Result B Rule) → Result B Rule
+abbrev pub ◌>>=◌ : {A B E : Type 0} → Result A E → (A → Result B E) → Result B E
 Ok x >>= f = f x
-Err r >>= f = Err r
+Err e >>= f = Err e
 
 -- the text before the first space, and what follows that space
 abbrev pub word_of : List ℕ → List ℕ

@@ -1,6 +1,7 @@
--- What comes of an input: the first line that breaks a rule, a refusal, or what was played.
-use Rattle.std.specs.Prelude.{◌≡◌, ℕ, ◌+◌, Bool, true, false, List, [], ◌∷◌, map, Some, None}
-use Rattle.std.specs.Prelude.{Ok, Err, vec_items, Option, Result}
+-- What comes of an input: the first line that is no UTF-8 or breaks a rule, a refusal, or what was
+-- played.
+use Rattle.std.specs.Prelude.{◌≡◌, ℕ, ◌+◌, if◌then◌else◌, List, [], ◌∷◌, map, Some, None, Ok, Err}
+use Rattle.std.specs.Prelude.{vec_items, Option, Result}
 use Rattle.std.specs.Str.{is_utf8}
 use Rattle.std.specs.Str.Lines.{lines}
 use Rattle.fault.specs.declared.kinds.KeyFault.{KeyFault}
@@ -22,8 +23,10 @@ use Rattle.replay.specs.declared.report.Outcome.{Outcome}
 use Rattle.replay.specs.declared.report.Outcome.TheVariants as outcome
 use Rattle.replay.specs.declared.written.Body.{Body}
 use Rattle.replay.specs.declared.written.Body.TheVariants as body
-use Rattle.replay.specs.Lines.{Brought}
+use Rattle.replay.specs.declared.written.Script.{Script}
+use Rattle.replay.specs.Lines.{Brought, ◌>>=◌}
 use Rattle.replay.specs.Scripts.{Course, Sealing, Opening, Written, unwritten, after_line}
+use Rattle.replay.specs.Scripts.{written_in}
 
 -- the body calls that a script holds
 abbrev pub pieces_in : Option Body → List Piece
@@ -61,24 +64,42 @@ abbrev pub ComesListed : Result Listed (Placed KeyFault) → Written → Outcome
 ComesListed (Err f) w o = o ≡ outcome.Refused f
 ComesListed (Ok s) w o = ComesUnder (functions_of s) (key_check w.key) w o
 
-abbrev pub either : {A B : Type 0} → Result A Rule → (A → B) → (Rule → B) → B
-either (Ok x) f g = f x
-either (Err r) f g = g r
+-- what a line writes, or comes to, that is line n
+abbrev pub numbered : (n : ℕ) → Result Written Rule → Result Written Outcome
+numbered n (Ok w) = Ok w
+numbered n (Err r) = Err (outcome.Broken n r)
 
--- What the lines write, the first of which is line n; or the first that breaks a rule.
-abbrev pub written_from : (n : ℕ) → Written → List (List ℕ) → Result Written (ℕ × Rule)
+-- What is written once line n is read too; or what the line comes to, if it is no UTF-8 or breaks
+-- a rule.
+abbrev pub line_read : (n : ℕ) → Written → (line : List ℕ) → Result Written Outcome
+line_read n w l = if is_utf8 l then numbered n (after_line w l) else Err outcome.NoText
+
+-- What the lines write, the first of which is line n; or what the first comes to that is no UTF-8
+-- or breaks a rule, whatever stands behind it.
+abbrev pub written_from : (n : ℕ) → Written → List (List ℕ) → Result Written Outcome
 written_from n w [] = Ok w
-written_from n w (l ∷ ls) =
-    either (after_line w l) (λ v. written_from (n + 1) v ls) (λ r. Err (n, r))
+written_from n w (l ∷ ls) = line_read n w l >>= (λ v. written_from (n + 1) v ls)
 
-abbrev pub ComesWritten : Result Written (ℕ × Rule) → Outcome → Type 0
-ComesWritten (Err b) o = o ≡ outcome.Broken b.0 b.1
+-- ... and what an input writes. Its lines end at each byte 10, and lose one byte 13 before it.
+abbrev pub written_by : (input : List ℕ) → Result Written Outcome
+written_by input = written_from 1 unwritten (lines input)
+
+abbrev pub ComesWritten : Result Written Outcome → Outcome → Type 0
+ComesWritten (Err b) o = o ≡ b
 ComesWritten (Ok w) o = ComesListed (listed w.suite) w o
 
--- What comes of an input, by the test whether it is UTF-8.
-abbrev pub ComesText : Bool → (input : List ℕ) → Outcome → Type 0
-ComesText false input o = o ≡ outcome.NoText
-ComesText true input o = ComesWritten (written_from 1 unwritten (lines input)) o
-
+-- What comes of an input.
 abbrev pub Comes : (input : List ℕ) → Outcome → Type 0
-Comes input o = ComesText (is_utf8 input) input o
+Comes input o = ComesWritten (written_by input) o
+
+-- ## What the program's types hold
+
+-- what a line was read as: this is written now, or it comes to that
+abbrev pub read_as : Result (Unit {0}) Outcome → Written → Result Written Outcome
+read_as (Ok x) w = Ok w
+read_as (Err o) w = Err o
+
+-- a script that was read to its end, or what a line came to
+abbrev pub written_or : Result Script Outcome → Result Written Outcome
+written_or (Ok s) = Ok (written_in s)
+written_or (Err o) = Err o

@@ -2,6 +2,7 @@
 //! call answered.
 #![tactic(auto)]
 
+mod input;
 mod lines;
 mod playing;
 mod report;
@@ -12,7 +13,7 @@ mod written;
 use anyhow::anyhow;
 use playing::run;
 use std::env;
-use std::io::IsTerminal;
+use std::io::{BufReader, IsTerminal};
 
 const HELP: &'static str =
     "replay reads a session from standard input, one call to a line, and prints what each answered:
@@ -29,9 +30,10 @@ fn main(rt: HostRuntime) -> anyhow::Result<()> {
         print!(rt; "{HELP}")?;
         return Ok(());
     }
-    let mut reader = rt.stdin();
-    if reader.is_terminal() {
+    let stdin = rt.stdin();
+    if stdin.is_terminal() {
         eprintln!(rt; "replay reads a session from the terminal, to its end (control-D)")?;
     }
+    let mut reader = BufReader::new(rt.alloc(), stdin)?;
     run(rt.alloc(), &mut reader, &mut rt.stdout())
 }

@@ -1,34 +1,34 @@
 //! From an input to what is written for it.
-ghost use Rattle.std.specs.Prelude.{◌≡◌, map, IfOk, vec_items};
+ghost use Rattle.std.specs.Prelude.{◌≡◌, ℕ, List, map, IfOk, OnErr, vec_items};
+ghost use Rattle.std.specs.Io.KnownBytes.{Consumes};
 ghost use Rattle.std.specs.Option.{option_map};
-ghost use Rattle.std.specs.Str.Lines.{lines};
 ghost use Rattle.session.specs.Calls.{key_check};
 ghost use Rattle.replay.specs.Lines.{brought_in};
-ghost use Rattle.replay.specs.Scripts.{course_in, unwritten, written_in};
+ghost use Rattle.replay.specs.Scripts.{course_in, written_in};
 ghost use Rattle.replay.specs.Outcomes as outcomes;
-ghost use Rattle.replay.specs.Runs.{Ran};
+ghost use Rattle.replay.specs.Runs.{Decides, Ran};
 ghost use Rattle.suites.specs.Listed.{listed};
 
-use crate::lines::{Piece, Unread};
+use crate::input::read_script;
+use crate::lines::Piece;
 use crate::report::Outcome;
 use crate::written::{Body, Script};
 use script::{Course, Stretch, play};
 use session::KeyPlace;
 use std::alloc::{AllocError, Global};
-use std::io::{Read, Write};
-use std::str::from_utf8;
-use streams::put;
+use std::io::{BufRead, Write};
 use suite::Suite;
 use suites::{Listed, at_listed};
 
 /// Reads the lines of a session, plays it, and writes what each call answered; or the number of the
-/// first line that breaks a rule, and the rule. Nothing is written before the whole is played.
+/// first line that breaks a rule, and the rule, or that it is no UTF-8. What follows such a line is
+/// not read. Nothing is written before the whole is played.
 ///
 /// # Errors
 ///
 /// What the reader fails with, or that memory ran out, and then nothing is written; or what the
 /// writer fails with, and then a front of the text is written.
-pub(crate) fn run<R: Read, W: Write>(
+pub(crate) fn run<R: BufRead, W: Write>(
     heap: Global,
     reader: &mut R,
     writer: &mut W,
@@ -36,49 +36,20 @@ pub(crate) fn run<R: Read, W: Write>(
     ensures { Ran (R.remaining reader.old) (R.remaining reader.new)
         (W.contents writer.old) (W.contents writer.new) result }
 {
-    let mut input = Vec::new(heap);
-    reader.read_to_end(&mut input)?;
-    let outcome = outcome_of(heap, input.as_slice())?;
-    let text = outcome.to_string(heap)?;
-    put(writer, text.as_bytes())?;
-    Ok(())
+    let outcome = outcome_of(heap, reader)?;
+    outcome.write(heap, writer)
 }
 
-fn outcome_of(heap: Global, input: &[u8]) -> Result<Outcome, AllocError>
-    ensures { IfOk result (λ o. outcomes.Comes input.now o) }
+fn outcome_of<R: BufRead>(heap: Global, reader: &mut R) -> anyhow::Result<Outcome>
+    ensures decides { IfOk result (λ o.
+        Decides (R.remaining reader.old) (R.remaining reader.new) o) }
+    ensures failed { OnErr result ((bytes : List ℕ)
+        × Consumes (R.remaining reader.old) (R.remaining reader.new) bytes) }
 {
-    match from_utf8(input) {
-        Ok(text) => of_text(heap, text),
-        Err(_) => Ok(Outcome::NoText),
+    match read_script(heap, reader)? {
+        Ok(script) => Ok(of_script(heap, &script)?),
+        Err(outcome) => Ok(outcome),
     }
-}
-
-fn of_text(heap: Global, text: &str) -> Result<Outcome, AllocError>
-    ensures { IfOk result (λ o. outcomes.ComesWritten
-        (outcomes.written_from 1 unwritten (lines text.now)) o) }
-{
-    let lines = text.lines().collect::<Vec<&str>>(heap)?;
-    of_lines(heap, lines.as_slice())
-}
-
-fn of_lines(heap: Global, lines: &[&str]) -> Result<Outcome, AllocError>
-    ensures { IfOk result (λ o. outcomes.ComesWritten
-        (outcomes.written_from 1 unwritten (map (λ l. l.now) lines.now)) o) }
-{
-    let mut script = Script::new(heap);
-    for (before, line) in lines.iter().enumerate() {
-        match script.add(heap, line) {
-            Ok(()) => {}
-            Err(Unread::Broken(rule)) => {
-                return Ok(Outcome::Broken {
-                    line: before + 1,
-                    rule,
-                });
-            }
-            Err(Unread::Memory) => return Err(AllocError),
-        }
-    }
-    of_script(heap, &script)
 }
 
 fn of_script(heap: Global, script: &Script) -> Result<Outcome, AllocError>

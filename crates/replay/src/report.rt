@@ -1,12 +1,21 @@
 //! What comes of an input, and its text.
-ghost use Rattle.std.specs.Prelude.{[], Some};
+ghost use Rattle.std.specs.Prelude.{[], ◌++◌, ◌≤◌, length, Some};
+ghost use Rattle.hex.specs.Hex.{encode_lower};
 ghost use Rattle.replay.specs.Texts as texts;
+ghost use Rattle.streams.specs.Streams.{Wrote};
 
 use crate::lines::Rule;
 use fault::{KeyFault, Placed};
+use hex::encode_to_slice;
 use hexits::Hex;
 use script::{Answer, End, Played};
+use std::alloc::Global;
 use std::fmt;
+use std::io::Write;
+use streams::put;
+
+// How many bytes are written as digits at a time.
+const PIECE: usize = 4096;
 
 /// What comes of an input.
 #[derive(Drop)]
@@ -95,28 +104,89 @@ impl fmt::Display for EndLine<'_> {
     }
 }
 
-impl fmt::Display for Outcome {
-    ghost output = { λ o. Some (texts.outcome_text o) };
-
-    fn fmt<W: fmt::Write>(&self, f: &mut fmt::Formatter<W>) -> fmt::Result {
+impl Outcome {
+    /// Writes the text of what came of an input.
+    ///
+    /// # Errors
+    ///
+    /// That memory ran out, and then nothing is written; or what the writer fails with, and then a
+    /// front of the text is written.
+    pub(crate) fn write<W: Write>(&self, heap: Global, writer: &mut W) -> anyhow::Result<()>
+        ensures { Wrote (W.contents writer.old) (W.contents writer.new)
+            (texts.outcome_text self.now) result }
+    {
         match self {
-            Outcome::NoText => writeln!(f, "the input is no UTF-8 text"),
-            Outcome::Broken { line, rule } => writeln!(f, "line {line}: {rule}"),
-            Outcome::Refused(fault) => writeln!(f, "{fault}"),
-            Outcome::Played(log, end) => {
-                let answers = AnswerLines(log.answers.as_slice());
-                let header = Hex(log.header.as_slice());
-                let body = Hex(log.body.as_slice());
-                let out = Hex(log.out.as_slice());
-                let end = EndLine(end);
-                write!(
-                    f,
-                    "{answers}header taken: {header}
-body taken:   {body}
-handed out:   {out}
-{end}"
-                )
+            Outcome::NoText => write_text(writer, "the input is no UTF-8 text\n"),
+            Outcome::Broken { line, rule } => {
+                let text = format!(in heap; "line {line}: {rule}\n")?;
+                write_text(writer, text.as_str())
             }
+            Outcome::Refused(fault) => {
+                let text = format!(in heap; "{fault}\n")?;
+                write_text(writer, text.as_str())
+            }
+            Outcome::Played(log, end) => write_session(heap, log, end, writer),
         }
     }
+}
+
+fn write_text<W: Write>(writer: &mut W, text: &str) -> anyhow::Result<()>
+    ensures { Wrote (W.contents writer.old) (W.contents writer.new) text.now result }
+{
+    put(writer, text.as_bytes())?;
+    Ok(())
+}
+
+// What needs the heap is made before anything is written; the digits never stand there.
+fn write_session<W: Write>(
+    heap: Global,
+    log: &Played,
+    end: &End,
+    writer: &mut W,
+) -> anyhow::Result<()>
+    ensures { Wrote (W.contents writer.old) (W.contents writer.new)
+        (texts.session_text log.now end.now) result }
+{
+    let answers = AnswerLines(log.answers.as_slice());
+    let end = EndLine(end);
+    let head = format!(in heap; "{answers}header taken: ")?;
+    let tail = format!(in heap; "\n{end}")?;
+    write_titled(writer, head.as_str(), log.header.as_slice())?;
+    write_titled(writer, "\nbody taken:   ", log.body.as_slice())?;
+    write_titled(writer, "\nhanded out:   ", log.out.as_slice())?;
+    write_text(writer, tail.as_str())
+}
+
+fn write_titled<W: Write>(writer: &mut W, title: &str, bytes: &[u8]) -> anyhow::Result<()>
+    ensures { Wrote (W.contents writer.old) (W.contents writer.new)
+        (title.now ++ encode_lower bytes.now) result }
+{
+    write_text(writer, title)?;
+    write_digits(writer, bytes)
+}
+
+// Bytes in hexadecimal, some at a time.
+fn write_digits<W: Write>(writer: &mut W, bytes: &[u8]) -> anyhow::Result<()>
+    ensures { Wrote (W.contents writer.old) (W.contents writer.new)
+        (encode_lower bytes.now) result }
+{
+    let mut rest = bytes;
+    while !rest.is_empty() {
+        let (piece, more) = rest.split_at(rest.len().min(PIECE));
+        write_piece(writer, piece)?;
+        rest = more;
+    }
+    Ok(())
+}
+
+fn write_piece<W: Write>(writer: &mut W, piece: &[u8]) -> anyhow::Result<()>
+    requires { length piece.now ≤ PIECE }
+    ensures { Wrote (W.contents writer.old) (W.contents writer.new)
+        (encode_lower piece.now) result }
+{
+    let mut room = [0u8; 2 * PIECE];
+    let digits = &mut room[..2 * piece.len()];
+    encode_to_slice(piece, digits)?;
+    put(writer, digits)?;
+    Ok(())
 }

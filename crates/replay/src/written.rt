@@ -4,6 +4,7 @@ ghost use Rattle.std.specs.Prelude.{◌≡◌, Ok};
 ghost use Rattle.replay.specs.Lines as lines;
 ghost use Rattle.replay.specs.Scripts as scripts;
 ghost use Rattle.replay.specs.Sessions as sessions;
+ghost use Rattle.replay.specs.Utf8.{Utf8Law};
 
 use crate::lines::{Line, Piece, Rule, Unread};
 use std::alloc::Global;
@@ -169,4 +170,10 @@ impl Script {
 /// is left out.
 pub(crate) fn sessions_stand()
     ensures { sessions.WrittenLaw }
+{}
+
+/// An input that is UTF-8 is judged by the rules alone, as a whole text would be, and no other is
+/// played.
+pub(crate) fn utf8_stands()
+    ensures { Utf8Law }
 {}
