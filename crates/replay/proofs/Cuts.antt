@@ -96,14 +96,10 @@ bare_line line text x e one other =
 whole_is : (line text : List ℕ) → line ≡ text ++ 10 ∷ [] → StopsAt line 10 → lines line ≡ strip_carriage_return text ∷ []
 whole_is line text e one = ap lines e ∙ whole_line text (front_no_end text 10 (subst (λ (l : List ℕ). StopsAt l 10) e one))
 
-seam_of : (a : List ℕ) (x : ℕ) → get_or (a ++ x ∷ []) (length (a ++ x ∷ []) - 1) 0 ≡ x
-seam_of a x =
+seam : (a : List ℕ) (x : ℕ) → get_or (a ++ x ∷ []) (length (a ++ x ∷ []) - 1) 0 ≡ x
+seam a x =
     let n : length (a ++ x ∷ []) - 1 ≡ length a = omega (arith, length-append a (x ∷ [])) in
     rw n (get_or-append_seam a x [] 0)
-
-pub empty_line : (line text : List ℕ) (x : ℕ) → line ≡ text ++ x ∷ [] → x ≡ 10 → StopsAt line 10 → length text ≡ 0 → lines line ≡ text ∷ []
-empty_line line [] x e ten one none = whole_is line [] (e ∙ ap (λ (y : ℕ). y ∷ []) ten) one
-empty_line line (y ∷ ys) x e ten one none = absurd (omega arith)
 
 pub cut_line : (line text before : List ℕ) (x y : ℕ) → line ≡ text ++ x ∷ [] → x ≡ 10 → text ≡ before ++ y ∷ [] → y ≡ 13 → StopsAt line 10 → lines line ≡ before ∷ []
 cut_line line text before x y e ten f cr one =
@@ -111,12 +107,12 @@ cut_line line text before x y e ten f cr one =
     let n : length (before ++ 13 ∷ []) - 1 ≡ length before = omega (arith, length-append before (13 ∷ [])) in
     whole_is line text (e ∙ ap (λ (z : ℕ). text ++ z ∷ []) ten) one
     ∙ ap (λ (l : List ℕ). strip_carriage_return l ∷ []) is
-    ∙ ap (λ (z : ℕ). (if z == 13 then take (length (before ++ 13 ∷ []) - 1) (before ++ 13 ∷ []) else before ++ 13 ∷ []) ∷ []) (seam_of before 13)
+    ∙ ap (λ (z : ℕ). (if z == 13 then take (length (before ++ 13 ∷ []) - 1) (before ++ 13 ∷ []) else before ++ 13 ∷ []) ∷ []) (seam before 13)
     ∙ ap (λ (k : ℕ). take k (before ++ 13 ∷ []) ∷ []) n ∙ ap (λ (l : List ℕ). l ∷ []) (take-append_seam before (13 ∷ []))
 
 pub uncut_line : (line text before : List ℕ) (x y : ℕ) → line ≡ text ++ x ∷ [] → x ≡ 10 → text ≡ before ++ y ∷ [] → y ≢ 13 → StopsAt line 10 → lines line ≡ text ∷ []
 uncut_line line text before x y e ten f other one =
-    let last : get_or text (length text - 1) 0 ≡ y = ap (λ (l : List ℕ). get_or l (length l - 1) 0) f ∙ seam_of before y in
+    let last : get_or text (length text - 1) 0 ≡ y = ap (λ (l : List ℕ). get_or l (length l - 1) 0) f ∙ seam before y in
     let not : (y == 13) ≡ false = grind (arith, nat_tests) in
     whole_is line text (e ∙ ap (λ (z : ℕ). text ++ z ∷ []) ten) one
     ∙ ap (λ (z : ℕ). (if z == 13 then take (length text - 1) text else text) ∷ []) last
@@ -137,18 +133,13 @@ through (x ∷ xs) = at (x == 10) refl (through xs)
     at false e (inl n) = inl n
     at false e (inr p) = inr (x ∷ p.0, ap (λ (l : List ℕ). x ∷ l) p.1)
 
-seam : (a : List ℕ) → get_or (a ++ 10 ∷ []) (length (a ++ 10 ∷ []) - 1) 0 ≡ 10
-seam a =
-    let n : length (a ++ 10 ∷ []) - 1 ≡ length a = omega (arith, length-append a (10 ∷ [])) in
-    rw n (get_or-append_seam a 10 [] 0)
-
 pub whole-push : (a : List ℕ) → IsEmptyOrEndsWith (a ++ 10 ∷ []) 10
-whole-push a some = seam a
+whole-push a some = seam a 10
 
 ends-push : (a : List ℕ) → ends_with_byte 10 (a ++ 10 ∷ []) ≡ true
 ends-push a =
     let some : nat_lt 0 (length (a ++ 10 ∷ [])) ≡ true = grind (arith, nat_tests, length-append a (10 ∷ [])) in
-    rw (some, seam a) refl
+    rw (some, seam a 10) refl
 
 pub with_end : (line : List ℕ) → ends_with_byte 10 line ≡ true → line ≡ take (length line - 1) line ++ 10 ∷ []
 with_end line e =

@@ -4,7 +4,7 @@ use Rattle.std.specs.Io.{IsEmptyOrEndsWith, StopsAt, appended_bytes}
 use Rattle.std.specs.Io.BufRead.{ends_with_byte, take_through, DropsThrough}
 use Rattle.std.specs.Io.KnownBytes.{Consumes, IsAtEnd}
 use Rattle.std.specs.Str.Lines.{lines}
-use Rattle.std.proofs.KnownBytes.{Consumes-trans, Consumes-nil}
+use Rattle.std.proofs.KnownBytes.{Consumes-trans}
 use Rattle.replay.specs.declared.report.Outcome.{Outcome}
 use Rattle.replay.specs.Lines.{◌>>=◌}
 use Rattle.replay.specs.Scripts.{Written, unwritten}
@@ -48,15 +48,6 @@ pub record SoFar (old now : Option (List ℕ)) (n : ℕ) (w : Written) : Type 0 
   pub counted : length (lines read) ≡ n
   pub written : written_by read ≡ Ok w
 
-pub at_first : (a : Option (List ℕ)) (w : Written) → w ≡ unwritten → SoFar a a 0 w
-at_first a w e = record {
-  read = [];
-  consumes = Consumes-nil a;
-  whole = λ some. absurd (omega arith);
-  counted = refl;
-  written = ap Ok (sym e);
-}
-
 at_end : (a b c : Option (List ℕ)) (bs : List ℕ) → Consumes a b bs → OnSome b (IsAtEnd c) → OnSome a (IsAtEnd c)
 at_end None b c bs read at = tt
 at_end (Some x) None c bs read at = absurd read
@@ -85,6 +76,9 @@ line_is l line text e is one some = subst (λ (x : List ℕ). StopsAt x 10 → 0
 pub not_err : (r : Result (Unit {0}) Outcome) (w : Written) → ((o : Outcome) → r ≡ Err o → ⊥) → read_as r w ≡ Ok w
 not_err (Ok x) w other = refl
 not_err (Err o) w other = absurd (other o refl)
+
+pub bad : (x : Result Written Outcome) (r : Result (Unit {0}) Outcome) (w : Written) (o : Outcome) → x ≡ read_as r w → r ≡ Err o → x ≡ Err o
+bad x r w o e is = e ∙ ap (λ (s : Result (Unit {0}) Outcome). read_as s w) is
 
 taken : (w : Written) (r : Result Written Outcome) → r ≡ Ok w → IsOk r
 taken w r e = subst IsOk (sym e) refl

@@ -14,13 +14,13 @@ use std::fmt;
 use std::io::Write;
 use streams::put;
 
-// How many bytes are written as digits at a time.
+// How many bytes are written as digits in one piece.
 const PIECE: usize = 4096;
 
 /// What comes of an input.
 #[derive(Drop)]
 pub enum Outcome {
-    /// It is no UTF-8.
+    /// A line is no UTF-8.
     NoText,
     /// A line breaks a rule. The first line is line 1.
     Broken { line: usize, rule: Rule },
@@ -137,7 +137,7 @@ fn write_text<W: Write>(writer: &mut W, text: &str) -> anyhow::Result<()>
     Ok(())
 }
 
-// What needs the heap is made before anything is written; the digits never stand there.
+// What needs the heap is made before anything is written. The digits do not.
 fn write_session<W: Write>(
     heap: Global,
     log: &Played,
@@ -165,7 +165,7 @@ fn write_titled<W: Write>(writer: &mut W, title: &str, bytes: &[u8]) -> anyhow::
     write_digits(writer, bytes)
 }
 
-// Bytes in hexadecimal, some at a time.
+// Bytes in hexadecimal, a piece at a time.
 fn write_digits<W: Write>(writer: &mut W, bytes: &[u8]) -> anyhow::Result<()>
     ensures { Wrote (W.contents writer.old) (W.contents writer.new)
         (encode_lower bytes.now) result }

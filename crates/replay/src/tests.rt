@@ -67,7 +67,7 @@ fn leaves_what_follows_a_broken_line(rt: HostRuntime) -> anyhow::Result<()> {
     Ok(())
 }
 
-// More bytes than are written as digits at a time.
+// More bytes than one piece has.
 #[test]
 fn shows_long_bytes(rt: HostRuntime) -> anyhow::Result<()> {
     let mut input = Vec::from_slice(

@@ -172,8 +172,7 @@ pub(crate) fn sessions_stand()
     ensures { sessions.WrittenLaw }
 {}
 
-/// An input that is UTF-8 is judged by the rules alone, as a whole text would be, and no other is
-/// played.
+/// An input that is UTF-8 is judged by the rules alone, and no other input is played.
 pub(crate) fn utf8_stands()
     ensures { Utf8Law }
 {}

@@ -1,9 +1,8 @@
 use Rattle.std.proofs.Common.{◌≡◌, ◌<◌, ◌++◌, false, true, length, refl, sym, ap, ◌∙◌, rules}
 use Rattle.std.specs.Io.BufRead.{ends_with_byte}
 use Rattle.std.proofs.KnownBytes.{Consumes-trans}
-use Rattle.replay.specs.Outcomes.{read_as}
 use Rattle.replay.specs.Scripts.{written_in}
-use Rattle.replay.proofs.Through.{last_read, line_is, no_more, not_err, one_more, stopped}
+use Rattle.replay.proofs.Through.{bad, last_read, line_is, no_more, not_err, one_more, stopped}
 use Rattle.replay.proofs.Writes.{any_err}
 use Rattle.replay.proofs.input.read_script.Goals as goal
 
@@ -27,7 +26,7 @@ pub returns-in-Err-clause-read : goal.returns-in-Err-clause-read
 returns-in-Err-clause-read g c =
     let some : 0 < length c.in_ok-line.line.items = search rules in
     let text = line_is _ _ _ c.as_slice.ensures.value c.cut_end-ended.ensures.text c.in_ok-line.ensures.read.one some in
-    stopped _ _ _ _ _ c.loop-before.invariant _ c.in_ok-line.ensures.read _ text _ (c.in_ok-outcome.ensures ∙ ap (λ r. read_as r (written_in c.take_line.new.script)) c.in-Err.is) c.in-Err.outcome refl
+    stopped _ _ _ _ _ c.loop-before.invariant _ c.in_ok-line.ensures.read _ text _ (bad _ _ (written_in c.take_line.new.script) c.in-Err.outcome c.in_ok-outcome.ensures c.in-Err.is) c.in-Err.outcome refl
 
 pub returns-then-not-ended-clause-read : goal.returns-then-not-ended-clause-read
 returns-then-not-ended-clause-read g c =
