@@ -1,4 +1,4 @@
--- A run of the program, from what a reader has left to what a writer holds.
+-- A run of the program, from what a reader has left to what a writer holds, where either is known.
 use Rattle.std.specs.Prelude.{◌≡◌, ℕ, false, ◌⊎◌, List, ◌++◌, IsOk, OnSome, Ok, Err, Option}
 use Rattle.std.specs.Prelude.{Result}
 use Rattle.std.specs.Io.{IsEmptyOrEndsWith, StopsAt}
