@@ -1,9 +1,13 @@
 //! Up to N bytes in a row, filled from the front, with no heap.
 #![tactic(auto)]
 
-ghost use Rattle.std.specs.Prelude.{◌≡◌, ℕ, ◌≤◌, List, [], ◌∷◌, ◌++◌, length, take, ◌<◌};
-ghost use Rattle.std.specs.Prelude.{MatchOption};
+ghost use Rattle.std.specs.Prelude.{◌≡◌, ℕ, ◌-◌, ◌≤◌, List, [], ◌∷◌, ◌++◌, length, take, ◌<◌};
+ghost use Rattle.std.specs.Prelude.{min, IsOk, MatchOption, Ok, Some};
+ghost use Rattle.std.specs.Io.{WritesAtMost};
+ghost use Rattle.std.specs.Io.KnownBytes.{Keeps, WriteAppends};
 
+use std::io;
+use std::io::Write;
 use std::marker::Model;
 
 /// N bytes of memory, of which the first were put in.
@@ -73,5 +77,30 @@ impl<const N: usize> Buffer<N> {
         let bytes = &mut self.bytes[..];
         bytes[self.len..end].copy_from_slice(&s[..n]);
         self.len = end;
+    }
+}
+
+// A text is made in a buffer by `write!`, which fails where it has no room.
+impl<const N: usize> Write for Buffer<N> {
+    ghost contents = { λ b. Some b };
+
+    /// Puts bytes behind the others, as many as there is room for, and answers how many.
+    fn write(&mut self, s: &[u8]) -> io::Result<usize>
+        ensures bound { WritesAtMost result s.now }
+        ensures bytes { WriteAppends (Some self.old) (Some self.new) result s.now }
+        ensures count { result ≡ Ok (min (length s.now) (N - length self.old)) }
+    {
+        let n = s.len().min(N - self.as_slice().len());
+        self.extend(&s[..n]);
+        Ok(n)
+    }
+
+    /// Does nothing, since there is nowhere to send the bytes on to.
+    fn flush(&mut self) -> io::Result<()>
+        ensures bytes { Keeps (Some self.old) (Some self.new) }
+        ensures unchanged { self.new ≡ self.old }
+        ensures ok { IsOk result }
+    {
+        Ok(())
     }
 }
