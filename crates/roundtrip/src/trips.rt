@@ -3,11 +3,13 @@ ghost use Rattle.std.specs.Prelude.{IfSome, OnOk, Some};
 ghost use Rattle.delivery.specs.Told.{suite_of};
 ghost use Rattle.roundtrip.specs.Trips as trips;
 
+use buffer::Buffer;
 use delivery::{open, seal};
 use fault::{Placed, SessionFault};
 use hexits::Hex;
 use std::io::Write;
 use std::{fmt, io};
+use streams::put;
 use suites::listed::{MIRROR, POET_AES_FOUR, POET_AES_TEN, SHAFT, SHAFT_PADDED, SHAFT_SPECK};
 
 const KEY: [u8; 16] = [0x2a; 16];
@@ -17,6 +19,9 @@ const LABEL: &[u8] = b"lift 7, parts sheet 1";
 const MESSAGE: &[u8] = b"two door rollers, one guide shoe";
 
 const LEN: usize = 32;
+
+// Room for the text, which has 130 bytes, and 377 for each suite.
+const TEXT_LIMIT: usize = 4096;
 
 /// Writes the label, the message, and what comes of it under each listed suite.
 ///
@@ -34,12 +39,14 @@ pub(crate) fn run<W: Write>(writer: &mut W) -> io::Result<()>
     let mirror = Trip::under(MIRROR);
     let padded = Trip::under(SHAFT_PADDED);
     let speck = Trip::under(SHAFT_SPECK);
+    let mut text = Buffer::<TEXT_LIMIT>::new();
     write!(
-        writer,
+        text,
         "label      {label}
 message    {message}
 {shaft}{four}{ten}{mirror}{padded}{speck}"
-    )
+    )?;
+    put(writer, text.as_slice())
 }
 
 // What a call answered, under a word for its success.

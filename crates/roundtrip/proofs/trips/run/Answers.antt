@@ -4,12 +4,13 @@ use Rattle.suites.specs.Listed.{numbered}
 use Rattle.suites.specs.Shaft.{shaft, shaft_padded, shaft_speck}
 use Rattle.suites.specs.PoetAes.{poet_aes_four, poet_aes_ten}
 use Rattle.suites.specs.Mirror.{mirror}
+use Rattle.roundtrip.proofs.Calls.{text_written}
 use Rattle.roundtrip.proofs.trips.run.Goals as goal
 
 pub returns : goal.returns
 unfolding numbered
 returns g c =
-    on_ok_weaker c.write.result
+    on_ok_weaker c.put.result
     (λ written. (
       c.under-shaft.result,
       c.under-four.result,
@@ -25,4 +26,4 @@ returns g c =
       (shaft_speck, refl, c.under-speck.ensures),
       written,
     ))
-    c.write.ensures.bytes
+    (text_written _ _ _ _ _ _ c.put.result c.new-text.ensures c.in_ok-write.ensures.bytes c.as_slice.ensures.bytes c.put.ensures)
