@@ -1,5 +1,5 @@
--- What the calls give for buffers as long as the message, and what is written of them.
-use Rattle.std.proofs.Common.{◌≡◌, ℕ, true, false, List, [], ◌++◌, length, take, replicate, None, Ok, Err, Result, refl, sym, ap, ◌∙◌, subst, inl, inr, arith, take_all, append-nil, Some, Option}
+-- What the calls give for buffers as long as the message.
+use Rattle.std.proofs.Common.{◌≡◌, ℕ, true, false, List, ◌++◌, length, take, replicate, None, Ok, Err, Result, refl, sym, ap, ◌∙◌, subst, inl, inr, arith, take_all, append-nil, Some, Option}
 use Rattle.std.specs.Option.{IfSome}
 use Rattle.std.proofs.lemmas.List.{drop_all}
 use Rattle.fault.specs.declared.kinds.SessionFault.{SessionFault}
@@ -7,9 +7,6 @@ use Rattle.fault.specs.declared.kinds.Placed.{Placed}
 use Rattle.poet.specs.Functions.{Functions}
 use Rattle.poet.specs.Seal.{Seals}
 use Rattle.session.specs.Calls.{SealCall, OpenCall, open_checks}
-use Rattle.std.specs.Io.KnownBytes.{Appends}
-use Rattle.std.specs.Result.{OnOk}
-use Rattle.streams.specs.Streams.{Wrote}
 use Rattle.roundtrip.specs.declared.trips.Opening.{Opening}
 use Rattle.roundtrip.specs.Trips.{key, label, message, Opens}
 
@@ -50,9 +47,3 @@ pub from_three : {A : Type 0} (o : Option A) {P Q R S : A → Type 0} → IfSome
     → ((x : A) → P x → Q x → R x → S x) → IfSome o S
 from_three None p q r h = tt
 from_three (Some x) p q r h = h x p q r
-
--- A text was put behind no bytes, and what came of it was written.
-pub text_written : {E : Type 0} (old new : Option (List ℕ)) (none held bytes text : List ℕ) (r : Result (Unit {0}) E)
-    → none ≡ [] → held ≡ none ++ text → bytes ≡ held → Wrote old new bytes r → OnOk r (Appends old new text)
-text_written old new none held bytes text (Ok x) n h b w = subst (Appends old new) (b ∙ h ∙ ap (λ (l : List ℕ). l ++ text) n) w
-text_written old new none held bytes text (Err f) n h b w = tt

@@ -4,6 +4,7 @@ use Rattle.std.specs.Prelude.{◌≡◌, ℕ, ◌⊎◌, List, [], ◌∷◌, �
 use Rattle.std.specs.Prelude.{slice_set, bit_xor, codes, decimal, Ok, Err, Some, Option, Result}
 use Rattle.std.specs.Io.KnownBytes.{Appends}
 use Rattle.hex.specs.Hex.{encode_lower}
+use Rattle.streams.specs.Streams.{WritesFront}
 use Rattle.fault.specs.declared.kinds.SessionFault.{SessionFault}
 use Rattle.fault.specs.declared.kinds.Placed.{Placed}
 use Rattle.fault.specs.Numbers.{layer_of, number_of, shown_fault}
@@ -82,9 +83,17 @@ text_of a b c d e f = line (codes "label      " ++ encode_lower label)
     (trip_text a ++ (trip_text b ++ (trip_text c
     ++ (trip_text d ++ (trip_text e ++ trip_text f))))))
 
--- That text was written, and nothing else.
-abbrev pub Ran : (held held' : Option (List ℕ)) → Type 0
-Ran held held' = (a : Trip) × (b : Trip) × (c : Trip) × (d : Trip) × (e : Trip) × (f : Trip)
+-- P holds of the text of what came of it under each listed suite.
+abbrev pub OfText : (P : List ℕ → Type 0) → Type 0
+OfText P = (a : Trip) × (b : Trip) × (c : Trip) × (d : Trip) × (e : Trip) × (f : Trip)
     × TrippedUnder 1 a × TrippedUnder 2 b × TrippedUnder 3 c × TrippedUnder 4 d
     × TrippedUnder 5 e × TrippedUnder 6 f
-    × Appends held held' (text_of a b c d e f)
+    × P (text_of a b c d e f)
+
+-- That text was written, and nothing else.
+abbrev pub Ran : (held held' : Option (List ℕ)) → Type 0
+Ran held held' = OfText (Appends held held')
+
+-- Some first bytes of that text were written, or none, and nothing else.
+abbrev pub RanInPart : (held held' : Option (List ℕ)) → Type 0
+RanInPart held held' = OfText (WritesFront held held')

@@ -1,5 +1,5 @@
 //! One message, sealed and opened under a suite that is told by its number.
-ghost use Rattle.std.specs.Prelude.{IfSome, OnOk, Some};
+ghost use Rattle.std.specs.Prelude.{IfSome, OnErr, OnOk, Some};
 ghost use Rattle.delivery.specs.Told.{suite_of};
 ghost use Rattle.roundtrip.specs.Trips as trips;
 
@@ -23,13 +23,15 @@ const LEN: usize = 32;
 // Room for the text, which has 130 bytes, and 377 for each suite.
 const TEXT_LIMIT: usize = 4096;
 
-/// Writes the label, the message, and what comes of it under each listed suite.
+/// Writes the label, the message, and what comes of it under each listed suite, all at once.
 ///
 /// # Errors
 ///
-/// What the writer fails with. What is written then is not said.
+/// What the writer fails with. Some first bytes of the text are written then, or none.
 pub(crate) fn run<W: Write>(writer: &mut W) -> io::Result<()>
-    ensures { OnOk result (trips.Ran (W.contents writer.old) (W.contents writer.new)) }
+    ensures ran { OnOk result (trips.Ran (W.contents writer.old) (W.contents writer.new)) }
+    ensures failed { OnErr result
+        (trips.RanInPart (W.contents writer.old) (W.contents writer.new)) }
 {
     let label = Hex(LABEL);
     let message = Hex(MESSAGE);
