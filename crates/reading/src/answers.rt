@@ -17,10 +17,11 @@ fn reply<'a>(reader: &mut Reader<'a>, ask: Ask) -> Reply<'a>
     }
 }
 
-/// Answers each of the calls in its place, on a new reader over a sheet that was opened: that of the
-/// list `es` of good entries. Codes and drawings are lent from the sheet, which is only read; so a
-/// caller who opens a sheet by `delivery::open_sheet` and then calls this knows what the buffer
-/// holds from then on, also once the replies are let go.
+/// Answers each of the calls in its place, on a new reader over a sheet that was opened. Codes and
+/// drawings are lent from the sheet, which is only read: so a caller who opens a sheet by
+/// `delivery::open_sheet` and then calls this knows what the buffer holds from then on, also once
+/// the replies are let go. Of the replies over other bytes, which no such caller has, the contract
+/// says nothing.
 pub fn answer<'a>(sheet: &'a [u8], calls: &mut [Call<'a>])
     ensures asks { asks_of calls.new ≡ asks_of calls.old }
     ensures answered { (es : List Item) → AllGood es → sheet.now ≡ sheet_of es
