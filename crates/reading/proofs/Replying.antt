@@ -14,7 +14,7 @@ use Rattle.reading.specs.declared.script.Ask.TheVariants as ask
 use Rattle.reading.specs.declared.script.Reply.{Reply}
 use Rattle.reading.specs.declared.script.Reply.TheVariants as reply
 use Rattle.reading.specs.declared.script.Call.{Call}
-use Rattle.reading.specs.Replies.{Answered, AllAnswered, asks_of, replies_of, entries_in, ends_in, nexts}
+use Rattle.reading.specs.Replies.{Answered, AllAnswered, Replies, asks_of, replies_of, entries_in, ends_in, nexts}
 use Rattle.reading.specs.Readers.{ReaderAt, LeadsOn, Replied}
 
 -- a next call
@@ -43,43 +43,78 @@ module _ (r r' : Reader) (same : r'.sheet ≡ r.sheet) where
 
   pub next_replied : (o : Result (Option Lent) (Placed SheetFault)) → calls.Answered r.sheet.now r.place r'.place o → ((es : List Item) → AllGood es → drop r.place r.sheet.now ≡ sheet_of es → Follows r.sheet.now r'.place es o) → r'.last ≡ last_of r.last o
       → AnsweredInPlace r.sheet.ref_ptr r.place r'.place o → Replied r r' ask.Next (reply.Next o)
-  next_replied o answer follows last lies = record { same = same; leads = λ es at. leads_by o es answer (follows es at.good at.left) last lies at }
+  next_replied o answer follows last lies = record {
+    same = same;
+    goes = λ qs rs h. (r'.place, o, refl, answer, lies, subst (λ (l : Option Lent). Replies r.sheet.now r.sheet.ref_ptr r'.place l qs rs) last h);
+    leads = λ es at. leads_by o es answer (follows es at.good at.left) last lies at;
+  }
 
--- The replies so far, in the first i of the calls cs, on a new reader over the entries es: with those that are still to come, they are all.
+-- The replies so far, in the first i of the calls cs, on a new reader over the bytes of r: with those that are still to come, they are all.
+abbrev pub Gone : (r : Reader) (cs cs' : List Call) (i : ℕ) → Type 0
+Gone r cs cs' i = (rs : List (Option Reply)) → Replies r.sheet.now r.sheet.ref_ptr r.place r.last (drop i (asks_of cs)) rs → Replies r.sheet.now r.sheet.ref_ptr 0 None (asks_of cs) (take i (replies_of cs') ++ rs)
+
+-- ... and on one over the entries es
 abbrev pub Sofar : (r : Reader) (cs cs' : List Call) (i : ℕ) (es : List Item) → Type 0
 Sofar r cs cs' i es = (rest : List Item) × ReaderAt r rest
     × ((rs : List (Option Reply)) → Answered r.sheet.ref_ptr r.place r.last rest (drop i (asks_of cs)) rs → Answered r.sheet.ref_ptr 0 None es (asks_of cs) (take i (replies_of cs') ++ rs))
 
-pub one_more : (r r' : Reader) (cs cs' : List Call) (i : ℕ) (c : Call) (a : Reply) (es : List Item) → i < length cs' → asks_of cs' ≡ asks_of cs → c ≡ get_or cs' i (record { ask = ask.Next; reply = None }) → Replied r r' c.ask a
-    → Sofar r cs cs' i es → Sofar r' cs (set cs' i (record { ask = c.ask; reply = Some a })) (i + 1) es
-one_more r r' cs cs' i c a es l same ce replied (rest, at, more) =
-    let d : Call = record { ask = ask.Next; reply = None } in
-    let qs = asks_of cs in
-    let b = r.sheet.ref_ptr in
-    let (rest', at', lead) = replied.leads rest at in
-    let m : i < length qs = omega (arith, length-map cs' (λ (x : Call). x.ask), ap length same) in
-    let q : get_or qs i ask.Next ≡ c.ask = ap (λ (x : List Ask). get_or x i ask.Next) (sym same) ∙ get_or-map (λ (x : Call). x.ask) cs' i d ask.Next l ∙ ap (λ (x : Call). x.ask) (sym ce) in
-    let split : drop i qs ≡ c.ask ∷ drop (i + 1) qs = at_drop_more (λ (x : List Ask). x) qs i ask.Next m ∙ ap (λ (x : Ask). x ∷ drop (i + 1) qs) q in
-    let n : i < length (replies_of cs') = omega (arith, length-map cs' (λ (x : Call). x.reply)) in
-    let c' : Call = record { ask = c.ask; reply = Some a } in
-    let sofar : take (i + 1) (replies_of (set cs' i c')) ≡ take i (replies_of cs') ++ Some a ∷ [] =
-    ap (take (i + 1)) (map-set (λ (x : Call). x.reply) cs' i c') ∙ rw add-one (take-suc-set (replies_of cs') i (Some a) n) in (
-      rest',
-      at',
-      λ rs h.
-          let h' = subst (λ (x : Bor (List ℕ)). Answered x.ref_ptr r'.place r'.last rest' (drop (i + 1) qs) rs) replied.same h in
-          let all = more (Some a ∷ rs) (subst (λ (x : List Ask). Answered b r.place r.last rest x (Some a ∷ rs)) (sym split) (lead (drop (i + 1) qs) rs h')) in
-          subst (λ (x : Bor (List ℕ)). Answered x.ref_ptr 0 None es qs (take (i + 1) (replies_of (set cs' i c')) ++ rs)) (sym replied.same)
-          (subst (Answered b 0 None es qs) (sym (ap (λ (x : List (Option Reply)). x ++ rs) sofar ∙ append_assoc (take i (replies_of cs')) (Some a ∷ []) rs)) all),
-    )
+-- the next ask, and the replies with the next one among them
+module _ (cs cs' : List Call) (i : ℕ) (c : Call) (a : Reply) (l : i < length cs') (same : asks_of cs' ≡ asks_of cs) (ce : c ≡ get_or cs' i (record { ask = ask.Next; reply = None })) where
+  abbrev replied_call : Call
+  replied_call = record { ask = c.ask; reply = Some a }
+
+  asks_split : drop i (asks_of cs) ≡ c.ask ∷ drop (i + 1) (asks_of cs)
+  asks_split =
+      let d : Call = record { ask = ask.Next; reply = None } in
+      let m : i < length (asks_of cs) = omega (arith, length-map cs' (λ (x : Call). x.ask), ap length same) in
+      let q : get_or (asks_of cs) i ask.Next ≡ c.ask = ap (λ (x : List Ask). get_or x i ask.Next) (sym same) ∙ get_or-map (λ (x : Call). x.ask) cs' i d ask.Next l ∙ ap (λ (x : Call). x.ask) (sym ce) in
+      at_drop_more (λ (x : List Ask). x) (asks_of cs) i ask.Next m ∙ ap (λ (x : Ask). x ∷ drop (i + 1) (asks_of cs)) q
+
+  replies_more : (rs : List (Option Reply)) → take (i + 1) (replies_of (set cs' i replied_call)) ++ rs ≡ take i (replies_of cs') ++ Some a ∷ rs
+  replies_more rs =
+      let n : i < length (replies_of cs') = omega (arith, length-map cs' (λ (x : Call). x.reply)) in
+      let sofar : take (i + 1) (replies_of (set cs' i replied_call)) ≡ take i (replies_of cs') ++ Some a ∷ [] =
+      ap (take (i + 1)) (map-set (λ (x : Call). x.reply) cs' i replied_call) ∙ rw add-one (take-suc-set (replies_of cs') i (Some a) n) in
+      ap (λ (x : List (Option Reply)). x ++ rs) sofar ∙ append_assoc (take i (replies_of cs')) (Some a ∷ []) rs
+
+  pub one_gone : (r r' : Reader) → Replied r r' c.ask a → Gone r cs cs' i → Gone r' cs (set cs' i replied_call) (i + 1)
+  one_gone r r' replied gone = λ rs h.
+      let s = r.sheet in
+      let h' = subst (λ (x : Bor (List ℕ)). Replies x.now x.ref_ptr r'.place r'.last (drop (i + 1) (asks_of cs)) rs) replied.same h in
+      let all = gone (Some a ∷ rs) (subst (λ (x : List Ask). Replies s.now s.ref_ptr r.place r.last x (Some a ∷ rs)) (sym asks_split) (replied.goes (drop (i + 1) (asks_of cs)) rs h')) in
+      subst (λ (x : Bor (List ℕ)). Replies x.now x.ref_ptr 0 None (asks_of cs) (take (i + 1) (replies_of (set cs' i replied_call)) ++ rs)) (sym replied.same)
+      (subst (Replies s.now s.ref_ptr 0 None (asks_of cs)) (sym (replies_more rs)) all)
+
+  pub one_more : (r r' : Reader) (es : List Item) → Replied r r' c.ask a → Sofar r cs cs' i es → Sofar r' cs (set cs' i replied_call) (i + 1) es
+  one_more r r' es replied (rest, at, more) =
+      let b = r.sheet.ref_ptr in
+      let (rest', at', lead) = replied.leads rest at in (
+        rest',
+        at',
+        λ rs h.
+            let h' = subst (λ (x : Bor (List ℕ)). Answered x.ref_ptr r'.place r'.last rest' (drop (i + 1) (asks_of cs)) rs) replied.same h in
+            let all = more (Some a ∷ rs) (subst (λ (x : List Ask). Answered b r.place r.last rest x (Some a ∷ rs)) (sym asks_split) (lead (drop (i + 1) (asks_of cs)) rs h')) in
+            subst (λ (x : Bor (List ℕ)). Answered x.ref_ptr 0 None es (asks_of cs) (take (i + 1) (replies_of (set cs' i replied_call)) ++ rs)) (sym replied.same)
+            (subst (Answered b 0 None es (asks_of cs)) (sym (replies_more rs)) all),
+      )
 
 -- all of them
-pub no_more : (r : Reader) (cs cs' : List Call) (i : ℕ) (es : List Item) → length cs' ≤ i → asks_of cs' ≡ asks_of cs → Sofar r cs cs' i es → Answered r.sheet.ref_ptr 0 None es (asks_of cs) (replies_of cs')
-no_more r cs cs' i es l same (rest, at, more) =
-    let qs = asks_of cs in
-    let none : drop i qs ≡ [] = drop_of_length-le qs (omega (arith, length-map cs' (λ (x : Call). x.ask), ap length same)) in
-    let all : take i (replies_of cs') ++ [] ≡ replies_of cs' = append-nil (take i (replies_of cs')) ∙ take_all i (replies_of cs') (omega (arith, length-map cs' (λ (x : Call). x.reply))) in
-    subst (Answered r.sheet.ref_ptr 0 None es qs) all (more [] (subst (λ (x : List Ask). Answered r.sheet.ref_ptr r.place r.last rest x []) (sym none) tt))
+module _ (cs cs' : List Call) (i : ℕ) (l : length cs' ≤ i) (same : asks_of cs' ≡ asks_of cs) where
+  no_asks : drop i (asks_of cs) ≡ []
+  no_asks = drop_of_length-le (asks_of cs) (omega (arith, length-map cs' (λ (x : Call). x.ask), ap length same))
+
+  all_replies : take i (replies_of cs') ++ [] ≡ replies_of cs'
+  all_replies = append-nil (take i (replies_of cs')) ∙ take_all i (replies_of cs') (omega (arith, length-map cs' (λ (x : Call). x.reply)))
+
+  pub all_gone : (r : Reader) → Gone r cs cs' i → Replies r.sheet.now r.sheet.ref_ptr 0 None (asks_of cs) (replies_of cs')
+  all_gone r gone =
+      let s = r.sheet in
+      subst (Replies s.now s.ref_ptr 0 None (asks_of cs)) all_replies (gone [] (subst (λ (x : List Ask). Replies s.now s.ref_ptr r.place r.last x []) (sym no_asks) tt))
+
+  pub no_more : (r : Reader) (es : List Item) → Sofar r cs cs' i es → Answered r.sheet.ref_ptr 0 None es (asks_of cs) (replies_of cs')
+  no_more r es (rest, at, more) =
+      let b = r.sheet.ref_ptr in
+      subst (Answered b 0 None es (asks_of cs)) all_replies (more [] (subst (λ (x : List Ask). Answered b r.place r.last rest x []) (sym no_asks) tt))
 
 -- the entries and the ends among the replies
 take_none : (n : ℕ) → take {A = Item} n [] ≡ []

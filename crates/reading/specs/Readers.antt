@@ -5,7 +5,7 @@ use Rattle.sheet.specs.declared.reader.Reader.{Reader}
 use Rattle.sheet.specs.Entries.{Item, AllGood, sheet_of}
 use Rattle.reading.specs.declared.script.Ask.{Ask}
 use Rattle.reading.specs.declared.script.Reply.{Reply}
-use Rattle.reading.specs.Replies.{Answered}
+use Rattle.reading.specs.Replies.{Answered, Replies}
 
 -- good entries are left, and these are their bytes
 pub record ReaderAt (r : Reader) (es : List Item) : Type 0 where
@@ -22,4 +22,7 @@ LeadsOn r r' q a es = (es' : List Item) × ReaderAt r' es'
 
 pub record Replied (r r' : Reader) (q : Ask) (a : Reply) : Type 0 where
   pub same : r'.sheet ≡ r.sheet
+  pub goes : (qs : List Ask) (rs : List (Option Reply))
+      → Replies r.sheet.now r.sheet.ref_ptr r'.place r'.last qs rs
+      → Replies r.sheet.now r.sheet.ref_ptr r.place r.last (q ∷ qs) (Some a ∷ rs)
   pub leads : (es : List Item) → ReaderAt r es → LeadsOn r r' q a es

@@ -1,8 +1,11 @@
 -- What a reader answers to any list of calls, over the list of entries that is left to it.
 use Rattle.std.specs.Prelude.{◌≡◌, ℕ, suc, ◌+◌, ◌-◌, List, [], ◌∷◌, length, map, take}
-use Rattle.std.specs.Prelude.{Some, None, Ok, Err, Option}
+use Rattle.std.specs.Prelude.{Some, None, Ok, Err, Option, Result}
+use Rattle.fault.specs.declared.kinds.SheetFault.{SheetFault}
+use Rattle.fault.specs.declared.kinds.Placed.{Placed}
 use Rattle.sheet.specs.Entries.{Item, Lent, bytes, item_of}
-use Rattle.sheet.specs.Calls.{InPlace, last_field}
+use Rattle.sheet.specs.Calls as sheet
+use Rattle.sheet.specs.Calls.{AnsweredInPlace, InPlace, last_field, last_of}
 use Rattle.reading.specs.declared.script.Ask.{Ask}
 use Rattle.reading.specs.declared.script.Ask.TheVariants.{Next, Field}
 use Rattle.reading.specs.declared.script.Reply.{Reply}
@@ -26,6 +29,20 @@ Answered b p last es (Field k ∷ qs) (r ∷ rs) =
     (r ≡ Some (reply.Field (last_field k last))) × Answered b p last es qs rs
 Answered b p last es [] (r ∷ rs) = ⊥
 Answered b p last es (q ∷ qs) [] = ⊥
+
+-- The replies to calls on a reader at place p of any bytes s, which stand at b in memory, that last
+-- answered `last`. A next call gives what the reader answers there, o, and leads to the place q; a
+-- field call gives that field of the entry last answered, or that it is absent.
+abbrev pub Replies : (s : List ℕ) (b : ℕ × ℕ) (p : ℕ) (last : Option Lent)
+    → List Ask → List (Option Reply) → Type 0
+Replies s b p last [] [] = Unit {0}
+Replies s b p last (Next ∷ qs) (r ∷ rs) =
+    (q : ℕ) × (o : Result (Option Lent) (Placed SheetFault)) × (r ≡ Some (reply.Next o))
+    × sheet.Answered s p q o × AnsweredInPlace b p q o × Replies s b q (last_of last o) qs rs
+Replies s b p last (Field k ∷ qs) (r ∷ rs) =
+    (r ≡ Some (reply.Field (last_field k last))) × Replies s b p last qs rs
+Replies s b p last [] (r ∷ rs) = ⊥
+Replies s b p last (q ∷ qs) [] = ⊥
 
 -- what calls ask, and what is in their places for replies
 abbrev pub asks_of : List Call → List Ask
