@@ -20,8 +20,8 @@ fn reply<'a>(reader: &mut Reader<'a>, ask: Ask) -> Reply<'a>
 /// Answers each of the calls in its place, on a new reader over a sheet that was opened. Codes and
 /// drawings are lent from the sheet, which is only read: so a caller who opens a sheet by
 /// `delivery::open_sheet` and then calls this knows what the buffer holds from then on, also once
-/// the replies are let go. Over bytes that are no sheet the replies are the reader's too, among them
-/// its refusals.
+/// the replies are let go. Over bytes that are no sheet the replies are the reader's too, its
+/// refusals among them.
 pub fn answer<'a>(sheet: &'a [u8], calls: &mut [Call<'a>])
     ensures asks { asks_of calls.new ≡ asks_of calls.old }
     ensures replies { Replies sheet.now sheet.entry.ref_ptr 0 None

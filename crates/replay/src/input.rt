@@ -21,7 +21,8 @@ use std::str::from_utf8;
 ///
 /// # Errors
 ///
-/// What the reader fails with, or that memory ran out.
+/// What the reader fails with, or that memory ran out; or that time is out, after more lines than
+/// any input has.
 pub(crate) fn read_script<R: BufRead>(
     heap: Global,
     reader: &mut R,
